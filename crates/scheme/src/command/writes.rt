@@ -1,0 +1,70 @@
+// How a command is written: begun, then its tests, then its steps. Each call refuses what would break a rule.
+ghost use mathlib.Core.Path.{_≡_};
+ghost use Rattle.std.specs.Vec.{made};
+ghost use Rattle.model.specs.Answers.{refused-by, lowest, unless};
+ghost use Rattle.scheme.specs.Commands.{begun, with-test, with-step, begin-rules, test-rules, step-rules};
+ghost use Rattle.scheme.specs.Views.{view};
+use crate::command::Command;
+use crate::placing::keeps_parameter_rules;
+use crate::step::Step;
+use crate::test::Test;
+use model::bounded::Bounded;
+use model::counts::Counts;
+use model::fault::Reason;
+
+impl Command {
+    // A command with no tests and no steps.
+    pub fn begin(params: u8, cards: u8) -> Result<Command, Reason>
+        ensures answer { λ r. ⌜ refused-by r ≡ lowest (begin-rules params cards) ⌝ }
+        ensures value { λ r. ⌜ made r (λ m. view m ≡ begun params cards) ⌝ }
+    {
+        if params < 1 || params > 3 {
+            return Err(Reason::OutOfRange);
+        }
+        if cards >= 1 << params {
+            return Err(Reason::OutOfRange);
+        }
+        let tests = Bounded::empty(Test::Covers { upper: 0, attribute: 0, lower: 0 });
+        let steps = Bounded::empty(Step::Create { parameter: 0 });
+        Ok(Command { params, cards, tests, steps })
+    }
+
+    // One test more, at the end.
+    pub fn add_test(&mut self, counts: &Counts, test: Test) -> Result<(), Reason>
+        ensures answer { λ r. ⌜ refused-by r ≡ lowest (test-rules (now (counts .entry)) (view (now (self .entry))) test) ⌝ }
+        ensures after { λ r. ⌜ view (now (self .exit)) ≡ unless (refused-by r) (view (now (self .entry))) (with-test (view (now (self .entry))) test) ⌝ }
+    {
+        if self.steps.len() > 0 {
+            return Err(Reason::OutOfPlace);
+        }
+        if self.tests.len() >= 16 {
+            return Err(Reason::TooMany);
+        }
+        if !test.is_in_range(self.params, counts) {
+            return Err(Reason::OutOfRange);
+        }
+        if !test.is_row_declared(self.cards) {
+            return Err(Reason::ParameterRule);
+        }
+        self.tests.push(test);
+        Ok(())
+    }
+
+    // One step more, at the end.
+    pub fn add_step(&mut self, counts: &Counts, step: Step) -> Result<(), Reason>
+        ensures answer { λ r. ⌜ refused-by r ≡ lowest (step-rules (now (counts .entry)) (view (now (self .entry))) step) ⌝ }
+        ensures after { λ r. ⌜ view (now (self .exit)) ≡ unless (refused-by r) (view (now (self .entry))) (with-step (view (now (self .entry))) step) ⌝ }
+    {
+        if self.steps.len() >= 16 {
+            return Err(Reason::TooMany);
+        }
+        if !step.is_in_range(self.params, counts) {
+            return Err(Reason::OutOfRange);
+        }
+        if !keeps_parameter_rules(self.cards, self.tests.as_slice(), self.steps.as_slice(), step) {
+            return Err(Reason::ParameterRule);
+        }
+        self.steps.push(step);
+        Ok(())
+    }
+}
