@@ -1,0 +1,4 @@
+pub mod Orders
+pub mod Readers
+pub mod Table
+pub mod Tapes
