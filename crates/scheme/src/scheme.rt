@@ -14,11 +14,11 @@ pub struct Scheme {
 }
 
 impl Scheme {
-    // The scheme of no commands; `filler` stands in the unused room and is never seen.
-    pub fn empty(filler: Command) -> Scheme
+    // The scheme of no commands.
+    pub fn empty() -> Scheme
         ensures { λ r. ⌜ commands-of r ≡ [] ⌝ }
     {
-        Scheme { commands: Bounded::empty(filler) }
+        Scheme { commands: Bounded::empty(Command::idle()) }
     }
 
     // One command more, at the end, or `false` and no change where there are sixteen.

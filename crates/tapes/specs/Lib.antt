@@ -1,3 +1,4 @@
+pub mod Grammars
 pub mod Orders
 pub mod Readers
 pub mod Table

@@ -12,8 +12,19 @@ use model::bounded::Bounded;
 use model::counts::Counts;
 use model::fault::Reason;
 
+// What stands in the unused room of a list; it is never seen.
+const FILLING_TEST: Test = Test::Covers { upper: 0, attribute: 0, lower: 0 };
+const FILLING_STEP: Step = Step::Create { parameter: 0 };
+
 impl Command {
-    // A command with no tests and no steps.
+    // The command of one parameter that tests nothing and does nothing.
+    pub fn idle() -> Command
+        ensures { λ r. ⌜ view r ≡ begun 1 0 ⌝ }
+    {
+        Command { params: 1, cards: 0, tests: Bounded::empty(FILLING_TEST), steps: Bounded::empty(FILLING_STEP) }
+    }
+
+    // A command with no tests and no steps yet.
     pub fn begin(params: u8, cards: u8) -> Result<Command, Reason>
         ensures answer { λ r. ⌜ refused-by r ≡ lowest (begin-rules params cards) ⌝ }
         ensures value { λ r. ⌜ made r (λ m. view m ≡ begun params cards) ⌝ }
@@ -24,9 +35,7 @@ impl Command {
         if cards >= 1 << params {
             return Err(Reason::OutOfRange);
         }
-        let tests = Bounded::empty(Test::Covers { upper: 0, attribute: 0, lower: 0 });
-        let steps = Bounded::empty(Step::Create { parameter: 0 });
-        Ok(Command { params, cards, tests, steps })
+        Ok(Command { params, cards, tests: Bounded::empty(FILLING_TEST), steps: Bounded::empty(FILLING_STEP) })
     }
 
     // One test more, at the end.
