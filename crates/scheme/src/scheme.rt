@@ -29,6 +29,12 @@ impl Scheme {
         self.commands.push(command)
     }
 
+    pub fn len(&self) -> usize
+        ensures { λ r. ⌜ r ≡ length (commands-of (now (self .entry))) ⌝ }
+    {
+        self.commands.len()
+    }
+
     pub fn commands(&self) -> &[Command]
         ensures { λ r. ⌜ map view (now r) ≡ commands-of (now (self .entry)) ⌝ }
     {
