@@ -1,3 +1,4 @@
 pub mod Drafts
 pub mod Instructions
+pub mod Said
 pub mod Views

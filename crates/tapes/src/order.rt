@@ -4,6 +4,7 @@ ghost use Rattle.std.specs.Options.{mapped};
 ghost use Rattle.tapes.specs.Orders.{case-of, decoded};
 
 // The letters in the comments are the operands in their order.
+#[derive(Clone, Copy)]
 pub enum Order<'a> {
     // Begin a command of p parameters; bit i of q declares parameter i a card.
     Begin(&'a [u8; 2]),

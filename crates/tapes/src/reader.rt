@@ -16,6 +16,7 @@ use model::fault::Reason;
 const LONGEST: u16 = 65535;
 
 // An order as a part of its tape: its offset there, and how many bytes it takes.
+#[derive(Clone, Copy)]
 pub struct Placed<'a> {
     pub order: Order<'a>,
     pub offset: u16,

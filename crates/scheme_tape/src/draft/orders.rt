@@ -1,1 +1,45 @@
-// x
+// Which orders may come where: outside a command, among its tests, among its steps.
+ghost use mathlib.Core.Path.{_≡_};
+ghost use Rattle.model.specs.Answers.{refused-by, unless};
+ghost use Rattle.scheme_tape.specs.Said.{said, broken-order, extended-order};
+ghost use Rattle.scheme_tape.specs.Views.{draft-of};
+use crate::draft::Draft;
+use crate::draft::Phase;
+use model::counts::Counts;
+use model::fault::Reason;
+use scheme::step::Step;
+use scheme::test::Test;
+use tapes::order::Order;
+
+impl Draft {
+    // Take in one order, or refuse it by the lowest rule that it breaks and stay as it was.
+    pub fn obey(&mut self, counts: &Counts, order: Order) -> Result<(), Reason>
+        ensures answer { λ r. ⌜ refused-by r ≡ broken-order (now (counts .entry)) (draft-of (now (self .entry))) (said (order .entry)) ⌝ }
+        ensures after { λ r. ⌜ draft-of (now (self .exit)) ≡ unless (refused-by r) (draft-of (now (self .entry))) (extended-order (draft-of (now (self .entry))) (said (order .entry))) ⌝ }
+    {
+        match (self.phase(), order) {
+            (Phase::Outside, Order::Begin(x)) => self.begin(counts, x[0], x[1]),
+            (Phase::Tests, Order::Holds(x)) => self.test(counts, Test::Holds { right: x[0], row: x[1], column: x[2] }),
+            (Phase::Tests, Order::Is(x)) => self.test(counts, Test::Is { parameter: x[0], attribute: x[1], value: x[2] }),
+            (Phase::Tests, Order::IsNot(x)) => {
+                self.test(counts, Test::IsNot { parameter: x[0], attribute: x[1], value: x[2] })
+            }
+            (Phase::Tests, Order::Covers(x)) => {
+                self.test(counts, Test::Covers { upper: x[0], attribute: x[1], lower: x[2] })
+            }
+            (Phase::Tests | Phase::Steps, Order::Enter(x)) => {
+                self.step(counts, Step::Enter { right: x[0], row: x[1], column: x[2] })
+            }
+            (Phase::Tests | Phase::Steps, Order::Delete(x)) => {
+                self.step(counts, Step::Delete { right: x[0], row: x[1], column: x[2] })
+            }
+            (Phase::Tests | Phase::Steps, Order::Set(x)) => {
+                self.step(counts, Step::Set { parameter: x[0], attribute: x[1], value: x[2] })
+            }
+            (Phase::Tests | Phase::Steps, Order::Create(x)) => self.step(counts, Step::Create { parameter: x[0] }),
+            (Phase::Tests | Phase::Steps, Order::Destroy(x)) => self.step(counts, Step::Destroy { parameter: x[0] }),
+            (Phase::Tests | Phase::Steps, Order::End) => self.end(counts),
+            _ => Err(Reason::OutOfPlace),
+        }
+    }
+}
