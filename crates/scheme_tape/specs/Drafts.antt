@@ -8,7 +8,7 @@ use Rattle.std.specs.Options.{isSome}
 use Rattle.std.specs.declared.option.Option.{Option}
 use Rattle.std.specs.declared.option.Option.the-variants.{Some, None}
 use Rattle.model.specs.declared.counts.Counts.{Counts}
-use Rattle.model.specs.Answers.{lowest}
+use Rattle.model.specs.Answers.{Answer, accepted, refused, lowest}
 use Rattle.scheme.specs.Commands.{Command, begun, with-test, with-step, begin-rules, test-rules, step-rules}
 use Rattle.tapes.specs.Grammars.{Grammar}
 use Rattle.scheme_tape.specs.declared.draft.Phase.{Phase}
@@ -68,3 +68,11 @@ extended d i = extended-at (d .finished) (d .current) i
 -- the language of the scheme tape; a tape may not end inside a command
 abbrev pub scheme-grammar : Counts → Grammar Instruction Draft
 scheme-grammar c = record { code = code; start = empty-draft; broken = broken c; extended = extended; unfinished = λ d. isSome (d .current) }
+
+-- what a draft stands for where the tape ends, at this place
+abbrev pub finish-at : (place : ℕ) → (finished : List Command) → Option Command → Answer (List Command)
+finish-at place finished None = accepted finished
+finish-at place finished (Some m) = refused 1 3 place
+
+abbrev pub finish : (place : ℕ) → Draft → Answer (List Command)
+finish place d = finish-at place (d .finished) (d .current)

@@ -5,6 +5,7 @@ use lib.ListN.{getD}
 use Rattle.std.specs.declared.option.Option.{Option}
 use Rattle.std.specs.declared.option.Option.the-variants.{Some, None}
 use Rattle.model.specs.declared.counts.Counts.{Counts}
+use Rattle.model.specs.Answers.{Answer, accepted, refused}
 use Rattle.scheme.specs.declared.step.Step.the-variants.{Enter as EnterStep, Delete as DeleteStep, Set as SetStep, Create as CreateStep, Destroy as DestroyStep}
 use Rattle.scheme.specs.declared.test.Test.the-variants.{Holds as HoldsTest, Is as IsTest, IsNot as IsNotTest, Covers as CoversTest}
 use Rattle.tapes.specs.declared.order.Order.{Order}
@@ -42,3 +43,8 @@ broken-order c d (Some i) = broken c d i
 abbrev pub extended-order : Draft → Option Instruction → Draft
 extended-order d None = d
 extended-order d (Some i) = extended d i
+
+-- what taking in an order at a place answers
+abbrev pub taken : (place : ℕ) → Option ℕ → Answer (Unit {0})
+taken place None = accepted tt
+taken place (Some number) = refused 1 number place

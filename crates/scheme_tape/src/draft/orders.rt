@@ -1,15 +1,21 @@
 // Which orders may come where: outside a command, among its tests, among its steps.
 ghost use mathlib.Core.Path.{_≡_};
-ghost use Rattle.model.specs.Answers.{refused-by, unless};
-ghost use Rattle.scheme_tape.specs.Said.{said, broken-order, extended-order};
+ghost use Rattle.model.specs.Answers.{refused-by, unless, answer};
+ghost use Rattle.scheme.specs.Views.{commands-of};
+ghost use Rattle.scheme_tape.specs.Drafts.{finish};
+ghost use Rattle.scheme_tape.specs.Said.{said, broken-order, extended-order, taken};
 ghost use Rattle.scheme_tape.specs.Views.{draft-of};
 use crate::draft::Draft;
 use crate::draft::Phase;
 use model::counts::Counts;
+use model::fault::Fault;
+use model::fault::Layer;
 use model::fault::Reason;
+use scheme::scheme::Scheme;
 use scheme::step::Step;
 use scheme::test::Test;
 use tapes::order::Order;
+use tapes::reader::Placed;
 
 impl Draft {
     // Take in one order, or refuse it by the lowest rule that it breaks and stay as it was.
@@ -40,6 +46,27 @@ impl Draft {
             (Phase::Tests | Phase::Steps, Order::Destroy(x)) => self.step(counts, Step::Destroy { parameter: x[0] }),
             (Phase::Tests | Phase::Steps, Order::End) => self.end(counts),
             _ => Err(Reason::OutOfPlace),
+        }
+    }
+
+    // The same, where a refusal has the order's offset as its place.
+    pub fn take_in(&mut self, counts: &Counts, placed: Placed) -> Result<(), Fault>
+        ensures answer { λ r. ⌜ answer (λ _. tt) r ≡ taken (placed .entry .offset) (broken-order (now (counts .entry)) (draft-of (now (self .entry))) (said (placed .entry .order))) ⌝ }
+        ensures after { λ r. ⌜ draft-of (now (self .exit)) ≡ unless (broken-order (now (counts .entry)) (draft-of (now (self .entry))) (said (placed .entry .order))) (draft-of (now (self .entry))) (extended-order (draft-of (now (self .entry))) (said (placed .entry .order))) ⌝ }
+    {
+        match self.obey(counts, placed.order) {
+            Ok(()) => Ok(()),
+            Err(reason) => Err(Fault { layer: Layer::Scheme, reason, place: placed.offset }),
+        }
+    }
+
+    // The scheme, where the tape ends after `end` bytes; it may not end inside a command.
+    pub fn finish(&self, end: u16) -> Result<Scheme, Fault>
+        ensures { λ r. ⌜ answer commands-of r ≡ finish end (draft-of (now (self .entry))) ⌝ }
+    {
+        match self.current {
+            None => Ok(self.scheme),
+            Some(_) => Err(Fault { layer: Layer::Scheme, reason: Reason::OutOfPlace, place: end }),
         }
     }
 }

@@ -1,0 +1,5 @@
+mod Parting
+mod Refusing
+mod Saying
+mod Scanning
+mod Spelling

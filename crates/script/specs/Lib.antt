@@ -1,0 +1,5 @@
+pub mod Finds
+pub mod Words
+pub mod Hex
+pub mod Keywords
+pub mod Calls
