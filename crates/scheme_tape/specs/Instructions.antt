@@ -6,7 +6,7 @@ use Rattle.scheme.specs.declared.step.Step.{Step}
 use Rattle.scheme.specs.declared.step.Step.the-variants.{Enter, Delete, Set, Create, Destroy}
 use Rattle.scheme.specs.declared.test.Test.{Test}
 use Rattle.scheme.specs.declared.test.Test.the-variants.{Holds, Is, IsNot, Covers}
-use Rattle.tapes.specs.Orders.{Case}
+use Rattle.tapes.specs.Orders.{Case, spelt}
 
 -- begin a command with these parameters and declared cards; one test; one step; end the command
 pub data Instruction : Type 0 where
@@ -33,10 +33,6 @@ instruction-case (begins params cards) = record { number = 0x10; values = params
 instruction-case (tests t) = test-case t
 instruction-case (steps s) = step-case s
 instruction-case ends = record { number = 0x1F; values = [] }
-
--- an order on its tape: its byte, then its operands
-abbrev pub spelt : Case → List ℕ
-spelt order = order .number ∷ order .values
 
 abbrev pub code : Instruction → List ℕ
 code i = spelt (instruction-case i)

@@ -12,10 +12,9 @@ use tapes::reader::next_order;
 use tapes::reader::tape_length;
 use tapes::tape::Tape;
 
-// The scheme that the tape stands for where the attributes have these counts, or the first rule that it breaks.
-pub fn read_scheme_by(counts: &Counts, tape: &[u8]) -> Result<Scheme, Fault>
-    ensures reading { λ r. ⌜ SchemeRead (now (counts .entry)) (now (tape .entry)) (answer commands-of r) ⌝ }
-    ensures law { λ _. ⌜ OneReading (now (counts .entry)) ⌝ }
+// The same, where only the scales' counts are known: they are all that a tape's rules hang on.
+fn read_by(counts: &Counts, tape: &[u8]) -> Result<Scheme, Fault>
+    ensures { λ r. ⌜ SchemeRead (now (counts .entry)) (now (tape .entry)) (answer commands-of r) ⌝ }
 {
     let end = tape_length(tape, Tape::Scheme)?;
     let mut draft = Draft::empty();
@@ -28,11 +27,11 @@ pub fn read_scheme_by(counts: &Counts, tape: &[u8]) -> Result<Scheme, Fault>
     draft.finish(end)
 }
 
-// The same, under any four scales.
+// The scheme that the tape stands for under any four scales, or the first rule that it breaks.
 pub fn read_scheme<S0: Scale, S1: Scale, S2: Scale, S3: Scale>(tape: &[u8]) -> Result<Scheme, Fault>
     ensures reading { λ r. ⌜ SchemeRead (record { a0 = S0·Scale .count; a1 = S1·Scale .count; a2 = S2·Scale .count; a3 = S3·Scale .count }) (now (tape .entry)) (answer commands-of r) ⌝ }
     ensures law { λ _. ⌜ OneReading (record { a0 = S0·Scale .count; a1 = S1·Scale .count; a2 = S2·Scale .count; a3 = S3·Scale .count }) ⌝ }
 {
     let counts = Counts::of::<S0, S1, S2, S3>();
-    read_scheme_by(&counts, tape)
+    read_by(&counts, tape)
 }

@@ -1,20 +1,21 @@
 -- How an order is found at the front of some bytes, and handed on.
 use mathlib.Core.Path.{_≡_, refl, sym, ap, subst, _∙_}
 use mathlib.Core.Bool.{Bool, true, false, cond}
-use mathlib.Core.List.{List, [], _∷_}
+use mathlib.Core.List.{List, [], _∷_, _++_}
 use Prim.Native.Nat.{ℕ, _+_, _-_, _≤_}
+use native.Mathlib.Numerals.{one-add}
 use native.Mathlib.Omega.{arith}
 use lib.Dec.{leb}
-use lib.ListN.{length, take, drop}
+use lib.ListN.{length, take, drop, take-append-drop}
 use Rattle.std.proofs.shelf.Lists.{length-take-le, take-take, drop-all}
-use Rattle.std.proofs.shelf.Tests.{le-leb}
-use Rattle.std.specs.Options.{mapped}
+use Rattle.std.proofs.shelf.Tests.{le-leb, leb-true, cases-bool}
+use Rattle.std.specs.Options.{mapped, isSome}
 use Rattle.std.specs.declared.option.Option.{Option}
 use Rattle.std.specs.declared.option.Option.the-variants.{Some, None}
 use Rattle.model.specs.Answers.{Answer, accepted}
 use Rattle.tapes.specs.declared.table.OrderRow.{OrderRow}
 use Rattle.tapes.specs.declared.tape.Tape.{Tape}
-use Rattle.tapes.specs.Orders.{Case, decoded, decoded-by}
+use Rattle.tapes.specs.Orders.{Case, spelt, decoded, decoded-by}
 use Rattle.tapes.specs.Readers.{At, only-on, row-on, first-order, with-size, handed-on, size-of}
 use Rattle.tapes.specs.Table.{row-of}
 use Rattle.tapes.specs.Tapes.{same-tape}
@@ -69,3 +70,37 @@ hands tape offset (Some k) order size h =
 pub hands-none : (tape : Tape) (offset : ℕ) (o : Option Case) → None ≡ mapped with-size o → handed-on tape offset None ≡ handed-on tape offset o
 hands-none tape offset None h = refl
 hands-none tape offset (Some k) h = absurd (let z : _≡_ {A = ℕ} 0 1 = cc in omega arith)
+
+-- an order that was found stands at the front of the bytes
+module _ (byte : ℕ) (rest : List ℕ) (k : Case) where
+  split-by : (n : ℕ) (b : Bool) → leb n (length rest) ≡ b → cond b (Some (record { number = byte; values = take n rest })) None ≡ Some k → byte ∷ rest ≡ spelt k ++ drop (size-of k) (byte ∷ rest)
+  split-by n true enough h =
+      let is : record { number = byte; values = take n rest } ≡ k = cc in
+      let fits : length (take n rest) ≡ n = length-take-le n rest (leb-true _ _ enough) in
+      let past : drop (1 + length (take n rest)) (byte ∷ rest) ≡ drop n rest = rw (one-add, fits) in
+      let whole : byte ∷ rest ≡ byte ∷ (take n rest ++ drop n rest) = ap (λ l. byte ∷ l) (sym (take-append-drop n rest)) in
+      subst (λ (o : Case). byte ∷ rest ≡ spelt o ++ drop (size-of o) (byte ∷ rest)) is (whole ∙ ap (λ l. byte ∷ (take n rest ++ l)) (sym past))
+  split-by n false enough h = absurd (let z : _≡_ {A = ℕ} 0 1 = cc in omega arith)
+
+  split-row : (o : Option OrderRow) → decoded-by byte rest o ≡ Some k → byte ∷ rest ≡ spelt k ++ drop (size-of k) (byte ∷ rest)
+  split-row None h = absurd (let z : _≡_ {A = ℕ} 0 1 = cc in omega arith)
+  split-row (Some row) h = split-by (row .operands) (leb (row .operands) (length rest)) refl h
+
+  row-found : (o : Option OrderRow) → decoded-by byte rest o ≡ Some k → (isSome o ≡ true) × (k .number ≡ byte)
+  row-found None h = absurd (let z : _≡_ {A = ℕ} 0 1 = cc in omega arith)
+  row-found (Some row) h = (refl, number-by (leb (row .operands) (length rest)) h)
+    where
+    number-by : (b : Bool) → cond b (Some (record { number = byte; values = take (row .operands) rest })) None ≡ Some k → k .number ≡ byte
+    number-by true e = let is : record { number = byte; values = take (row .operands) rest } ≡ k = cc in sym (ap (λ (o : Case). o .number) is)
+    number-by false e = absurd (let z : _≡_ {A = ℕ} 0 1 = cc in omega arith)
+
+pub order-splits : (tape : Tape) (bytes : List ℕ) (k : Case) → first-order tape bytes ≡ Some k → bytes ≡ spelt k ++ drop (size-of k) bytes
+order-splits tape [] k h = absurd (let z : _≡_ {A = ℕ} 0 1 = cc in omega arith)
+order-splits tape (byte ∷ rest) k h = split-row byte rest k (row-on byte tape) h
+
+-- and its byte is one of this tape
+pub order-on : (tape : Tape) (bytes : List ℕ) (k : Case) → first-order tape bytes ≡ Some k → isSome (row-on (k .number) tape) ≡ true
+order-on tape [] k h = absurd (let z : _≡_ {A = ℕ} 0 1 = cc in omega arith)
+order-on tape (byte ∷ rest) k h =
+    let found = row-found byte rest k (row-on byte tape) h in
+    ap (λ b. isSome (row-on b tape)) (found .1) ∙ found .0

@@ -15,6 +15,10 @@ pub record Case : Type 0 where
   pub number : ℕ
   pub values : List ℕ
 
+-- an order on its tape: its byte, then its operands
+abbrev pub spelt : Case → List ℕ
+spelt order = order .number ∷ order .values
+
 -- n operands, read from place k on
 abbrev pub operands-from : (k n : ℕ) → List ℕ → List ℕ
 operands-from k zero xs = []

@@ -1,0 +1,3 @@
+pub mod Decoding
+pub mod Loop
+pub mod Shaping
