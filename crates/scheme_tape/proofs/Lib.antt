@@ -1,3 +1,4 @@
 pub mod Decoding
+pub mod Exits
 pub mod Loop
 pub mod Shaping
