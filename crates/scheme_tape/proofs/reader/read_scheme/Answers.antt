@@ -1,0 +1,13 @@
+use mathlib.Core.Path.{sym, subst}
+use Rattle.model.specs.Answers.{answer}
+use Rattle.scheme.specs.Views.{commands-of}
+use Rattle.scheme_tape.specs.Reading.{SchemeRead}
+use Rattle.scheme_tape.proofs.Law.{one-reading}
+use Rattle.scheme_tape.proofs.reader.read_scheme.Needs as need
+
+pub returns : need.returns
+returns g c =
+    record {
+      reading = subst (λ n. SchemeRead n (c .args .tape .now) (answer commands-of (c .read-by .result))) (c .of-counts .ensures) (c .read-by .ensures);
+      law = one-reading _;
+    }
