@@ -5,6 +5,10 @@ use lib.Dec.{eqb, ltb}
 use Rattle.model.specs.declared.counts.Counts.{Counts}
 use Rattle.model.specs.Stamps.{null}
 
+-- the counts of the scales of attributes 0 to 3
+abbrev pub counts-by : (s0 s1 s2 s3 : ℕ) → Counts
+counts-by s0 s1 s2 s3 = record { a0 = s0; a1 = s1; a2 = s2; a3 = s3 }
+
 -- how many values attribute k has; there is none over 3
 abbrev pub count-of : Counts → ℕ → ℕ
 count-of c k = cond (eqb k 0) (c .a0) (cond (eqb k 1) (c .a1) (cond (eqb k 2) (c .a2) (cond (eqb k 3) (c .a3) 0)))

@@ -1,8 +1,9 @@
 // How many values each of the four attributes has, as their scales state it.
 ghost use mathlib.Core.Bool.{Bool};
 ghost use mathlib.Core.Path.{_≡_};
-ghost use Rattle.model.specs.Counts.{is-value, is-null-or-value};
+ghost use Rattle.model.specs.Counts.{counts-by, is-value, is-null-or-value};
 use crate::scale::Scale;
+use crate::stamp::ATTRIBUTES;
 use crate::stamp::Attribute;
 use crate::stamp::NULL;
 use crate::stamp::Value;
@@ -18,9 +19,14 @@ pub struct Counts {
 
 impl Counts {
     pub fn of<S0: Scale, S1: Scale, S2: Scale, S3: Scale>() -> Counts
-        ensures { λ r. ⌜ r ≡ record { a0 = S0·Scale .count; a1 = S1·Scale .count; a2 = S2·Scale .count; a3 = S3·Scale .count } ⌝ }
+        ensures { λ r. ⌜ r ≡ counts-by (S0·Scale .count) (S1·Scale .count) (S2·Scale .count) (S3·Scale .count) ⌝ }
     {
-        Counts { a0: S0::value_count(), a1: S1::value_count(), a2: S2::value_count(), a3: S3::value_count() }
+        Counts {
+            a0: S0::value_count(),
+            a1: S1::value_count(),
+            a2: S2::value_count(),
+            a3: S3::value_count(),
+        }
     }
 
     // Whether `v` is a value of attribute `k`; an attribute that does not exist has none.
@@ -40,6 +46,10 @@ impl Counts {
     pub fn is_null_or_value(&self, k: Attribute, v: Value) -> bool
         ensures { λ r. ⌜ r ≡ is-null-or-value (now (self .entry)) k v ⌝ }
     {
-        if v == NULL { k < 4 } else { self.is_value(k, v) }
+        if v == NULL {
+            k < ATTRIBUTES
+        } else {
+            self.is_value(k, v)
+        }
     }
 }

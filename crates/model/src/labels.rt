@@ -9,6 +9,7 @@ pub impl Scale for Labels as LabelsScale {
     const COUNT: u8 = 16;
 
     ghost count = { 16 };
+
     ghost covering = { labels-cover };
 
     fn value_count() -> u8 {

@@ -9,6 +9,7 @@ pub impl Scale for Ladder as LadderScale {
     const COUNT: u8 = 8;
 
     ghost count = { 8 };
+
     ghost covering = { ladder-covers };
 
     fn value_count() -> u8 {

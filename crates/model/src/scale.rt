@@ -9,8 +9,11 @@ pub trait Scale {
     const COUNT: u8;
 
     ghost count: { ℕ };
+
     ghost covering: { ℕ → ℕ → Bool };
+
     law some: { 1 ≤ count };
+
     law few: { count ≤ 16 };
 
     // Hands out COUNT, and so ties it to the ghost member: no clause can name an associated constant.

@@ -18,7 +18,9 @@ impl Scheme {
     pub fn empty() -> Scheme
         ensures { λ r. ⌜ commands-of r ≡ [] ⌝ }
     {
-        Scheme { commands: Bounded::empty(Command::idle()) }
+        Scheme {
+            commands: Bounded::empty(Command::idle()),
+        }
     }
 
     // One command more, at the end, or `false` and no change where there are sixteen.

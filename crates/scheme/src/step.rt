@@ -14,15 +14,31 @@ use model::stamp::Value;
 #[derive(Clone, Copy)]
 pub enum Step {
     // Put the right into the cell [row, column].
-    Enter { right: Right, row: Parameter, column: Parameter },
+    Enter {
+        right: Right,
+        row: Parameter,
+        column: Parameter,
+    },
     // Take the right out of the cell [row, column].
-    Delete { right: Right, row: Parameter, column: Parameter },
+    Delete {
+        right: Right,
+        row: Parameter,
+        column: Parameter,
+    },
     // Make the parameter's attribute the value, which is not null.
-    Set { parameter: Parameter, attribute: Attribute, value: Value },
+    Set {
+        parameter: Parameter,
+        attribute: Attribute,
+        value: Value,
+    },
     // Make the entry, all null, with no rights.
-    Create { parameter: Parameter },
+    Create {
+        parameter: Parameter,
+    },
     // End the entry and all rights to it and of it.
-    Destroy { parameter: Parameter },
+    Destroy {
+        parameter: Parameter,
+    },
 }
 
 // How a step has to do with a parameter.
@@ -38,9 +54,21 @@ impl Step {
         ensures { λ r. ⌜ r ≡ names-in-step i self ⌝ }
     {
         match self {
-            Step::Enter { right: _, row, column } => i == row || i == column,
-            Step::Delete { right: _, row, column } => i == row || i == column,
-            Step::Set { parameter, attribute: _, value: _ } => i == parameter,
+            Step::Enter {
+                right: _,
+                row,
+                column,
+            } => i == row || i == column,
+            Step::Delete {
+                right: _,
+                row,
+                column,
+            } => i == row || i == column,
+            Step::Set {
+                parameter,
+                attribute: _,
+                value: _,
+            } => i == parameter,
             Step::Create { parameter } => i == parameter,
             Step::Destroy { parameter } => i == parameter,
         }
@@ -68,8 +96,14 @@ impl Step {
     {
         match self {
             Step::Enter { right, row, column } => right < RIGHTS && row < params && column < params,
-            Step::Delete { right, row, column } => right < RIGHTS && row < params && column < params,
-            Step::Set { parameter, attribute, value: _ } => parameter < params && attribute < ATTRIBUTES,
+            Step::Delete { right, row, column } => right < RIGHTS
+                && row < params
+                && column < params,
+            Step::Set {
+                parameter,
+                attribute,
+                value: _,
+            } => parameter < params && attribute < ATTRIBUTES,
             Step::Create { parameter } => parameter < params,
             Step::Destroy { parameter } => parameter < params,
         }
@@ -80,7 +114,11 @@ impl Step {
         ensures { λ r. ⌜ r ≡ step-valued (now (counts .entry)) self ⌝ }
     {
         match self {
-            Step::Set { parameter: _, attribute, value } => counts.is_value(attribute, value),
+            Step::Set {
+                parameter: _,
+                attribute,
+                value,
+            } => counts.is_value(attribute, value),
             _ => true,
         }
     }
@@ -96,8 +134,16 @@ impl Step {
         ensures { λ r. ⌜ r ≡ step-row-declared cards self ⌝ }
     {
         match self {
-            Step::Enter { right: _, row, column: _ } => holds(u16::from(cards), row),
-            Step::Delete { right: _, row, column: _ } => holds(u16::from(cards), row),
+            Step::Enter {
+                right: _,
+                row,
+                column: _,
+            } => holds(u16::from(cards), row),
+            Step::Delete {
+                right: _,
+                row,
+                column: _,
+            } => holds(u16::from(cards), row),
             _ => true,
         }
     }

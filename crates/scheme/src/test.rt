@@ -16,13 +16,29 @@ pub type Parameter = u8;
 #[derive(Clone, Copy)]
 pub enum Test {
     // The right is in the cell [row, column].
-    Holds { right: Right, row: Parameter, column: Parameter },
+    Holds {
+        right: Right,
+        row: Parameter,
+        column: Parameter,
+    },
     // The parameter's attribute is the value, which may be null.
-    Is { parameter: Parameter, attribute: Attribute, value: Value },
+    Is {
+        parameter: Parameter,
+        attribute: Attribute,
+        value: Value,
+    },
     // The parameter's attribute is not the value, which may be null.
-    IsNot { parameter: Parameter, attribute: Attribute, value: Value },
+    IsNot {
+        parameter: Parameter,
+        attribute: Attribute,
+        value: Value,
+    },
     // The attribute of `upper` covers that of `lower`, and neither is null.
-    Covers { upper: Parameter, attribute: Attribute, lower: Parameter },
+    Covers {
+        upper: Parameter,
+        attribute: Attribute,
+        lower: Parameter,
+    },
 }
 
 impl Test {
@@ -30,10 +46,26 @@ impl Test {
         ensures { λ r. ⌜ r ≡ names-in-test i self ⌝ }
     {
         match self {
-            Test::Holds { right: _, row, column } => i == row || i == column,
-            Test::Is { parameter, attribute: _, value: _ } => i == parameter,
-            Test::IsNot { parameter, attribute: _, value: _ } => i == parameter,
-            Test::Covers { upper, attribute: _, lower } => i == upper || i == lower,
+            Test::Holds {
+                right: _,
+                row,
+                column,
+            } => i == row || i == column,
+            Test::Is {
+                parameter,
+                attribute: _,
+                value: _,
+            } => i == parameter,
+            Test::IsNot {
+                parameter,
+                attribute: _,
+                value: _,
+            } => i == parameter,
+            Test::Covers {
+                upper,
+                attribute: _,
+                lower,
+            } => i == upper || i == lower,
         }
     }
 
@@ -43,9 +75,21 @@ impl Test {
     {
         match self {
             Test::Holds { right, row, column } => right < RIGHTS && row < params && column < params,
-            Test::Is { parameter, attribute, value: _ } => parameter < params && attribute < ATTRIBUTES,
-            Test::IsNot { parameter, attribute, value: _ } => parameter < params && attribute < ATTRIBUTES,
-            Test::Covers { upper, attribute, lower } => upper < params && attribute < ATTRIBUTES && lower < params,
+            Test::Is {
+                parameter,
+                attribute,
+                value: _,
+            } => parameter < params && attribute < ATTRIBUTES,
+            Test::IsNot {
+                parameter,
+                attribute,
+                value: _,
+            } => parameter < params && attribute < ATTRIBUTES,
+            Test::Covers {
+                upper,
+                attribute,
+                lower,
+            } => upper < params && attribute < ATTRIBUTES && lower < params,
         }
     }
 
@@ -54,8 +98,16 @@ impl Test {
         ensures { λ r. ⌜ r ≡ test-valued (now (counts .entry)) self ⌝ }
     {
         match self {
-            Test::Is { parameter: _, attribute, value } => counts.is_null_or_value(attribute, value),
-            Test::IsNot { parameter: _, attribute, value } => counts.is_null_or_value(attribute, value),
+            Test::Is {
+                parameter: _,
+                attribute,
+                value,
+            } => counts.is_null_or_value(attribute, value),
+            Test::IsNot {
+                parameter: _,
+                attribute,
+                value,
+            } => counts.is_null_or_value(attribute, value),
             _ => true,
         }
     }
@@ -71,7 +123,11 @@ impl Test {
         ensures { λ r. ⌜ r ≡ test-row-declared cards self ⌝ }
     {
         match self {
-            Test::Holds { right: _, row, column: _ } => holds(u16::from(cards), row),
+            Test::Holds {
+                right: _,
+                row,
+                column: _,
+            } => holds(u16::from(cards), row),
             _ => true,
         }
     }

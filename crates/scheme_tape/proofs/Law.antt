@@ -1,5 +1,5 @@
 -- No scheme tape has two readings.
-use mathlib.Core.Path.{_≡_, refl, sym, ap, _∙_}
+use mathlib.Core.Path.{_≡_, refl, sym, ap, subst, _∙_}
 use mathlib.Core.Logic.{_⊎_, inl, inr}
 use mathlib.Core.List.{List}
 use Prim.Native.Nat.{ℕ, _<_, _≤_}
@@ -11,7 +11,7 @@ use Rattle.scheme.specs.Commands.{Command}
 use Rattle.tapes.specs.Grammars.{Refused}
 use Rattle.tapes.proofs.Reading.{stopped-once, whole-once, whole-or-stopped}
 use Rattle.scheme_tape.specs.Drafts.{Draft, scheme-grammar}
-use Rattle.scheme_tape.specs.Reading.{SchemeRead, OneReading}
+use Rattle.scheme_tape.specs.Reading.{SchemeRead, AcceptedExactly, OneReading}
 use Rattle.scheme_tape.proofs.Decoding.{decode, reads}
 use Rattle.scheme_tape.proofs.Lengths.{encoding-short}
 use Rattle.scheme_tape.proofs.Running.{encoding-whole}
@@ -37,3 +37,7 @@ one-reading c tape (refused l n p) (refused k m q) a b =
     let same = refused-once c tape n p m q (a .1) (b .1) in
     let layer : l ≡ k = a .0 ∙ sym (b .0) in
     λ i. refused (layer i) (same .0 i) (same .1 i)
+
+pub accepted-exactly : (c : Counts) (tape : List ℕ) (answer : Answer (List Command)) → SchemeRead c tape answer → AcceptedExactly c tape answer
+accepted-exactly c tape answer read commands =
+    (λ is. subst (SchemeRead c tape) is read, λ encodes. one-reading c tape answer (accepted commands) read encodes)

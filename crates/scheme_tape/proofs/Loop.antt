@@ -46,9 +46,9 @@ module _ (c : Counts) (tape : List ℕ) where
           split = so-far .split;
           here = so-far .here;
           why = no-order
-            (λ empty. absurd (let long : length (drop at tape) ≡ 0 = ap length empty in omega (arith, length-drop at tape)))
-            (λ i after is. some-none (instruction-case i) (first-order Scheme (drop at tape)) (ap (first-order Scheme) is ∙ listed i after) none)
-            refl;
+              (λ empty. absurd (let long : length (drop at tape) ≡ 0 = ap length empty in omega (arith, length-drop at tape)))
+              (λ i after is. some-none (instruction-case i) (first-order Scheme (drop at tape)) (ap (first-order Scheme) is ∙ listed i after) none)
+              refl;
         }
 
     -- an order stands here; this is what it says
@@ -89,10 +89,10 @@ module _ (c : Counts) (tape : List ℕ) where
             orders = so-far .orders ++ i ∷ [];
             lawful = subst (Runs g empty-draft (so-far .orders ++ i ∷ [])) (sym (is ∙ ap (extended-order d) (meant .1))) (runs-on g i (so-far .lawful) (sym (ap (broken-order c d) (meant .1)) ∙ ok));
             split =
-              so-far .split ∙ ap (λ l. codes g (so-far .orders) ++ l) rest-is
-              ∙ sym (append-assoc (codes g (so-far .orders)) (code i) (drop next tape))
-              ∙ ap (λ l. l ++ drop next tape) (sym joined-is)
-              ∙ ap (λ n. codes g (so-far .orders ++ i ∷ []) ++ drop (at + n) tape) (sym same);
+                so-far .split ∙ ap (λ l. codes g (so-far .orders) ++ l) rest-is
+                ∙ sym (append-assoc (codes g (so-far .orders)) (code i) (drop next tape))
+                ∙ ap (λ l. l ++ drop next tape) (sym joined-is)
+                ∙ ap (λ n. codes g (so-far .orders ++ i ∷ []) ++ drop (at + n) tape) (sym same);
             here = omega (arith, so-far .here, same, long, ap length joined-is, length-append (codes g (so-far .orders)) (code i));
           }
 

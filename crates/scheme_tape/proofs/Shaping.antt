@@ -35,9 +35,9 @@ pub to-unbroken : (rules : List (ℕ × Bool)) → lowest rules ≡ None → Unb
 to-unbroken [] h = tt
 to-unbroken (rule ∷ rules) h = by (rule .1) refl h (to-unbroken rules)
   where
-  by : (b : Bool) → rule .1 ≡ b → cond b (Some (rule .0)) (lowest rules) ≡ None → (lowest rules ≡ None → Unbroken rules) → Unbroken (rule ∷ rules)
-  by true is bad on = absurd (let z : _≡_ {A = ℕ} 0 1 = cc in omega arith)
-  by false is rest on = (is, on rest)
+    by : (b : Bool) → rule .1 ≡ b → cond b (Some (rule .0)) (lowest rules) ≡ None → (lowest rules ≡ None → Unbroken rules) → Unbroken (rule ∷ rules)
+    by true is bad on = absurd (let z : _≡_ {A = ℕ} 0 1 = cc in omega arith)
+    by false is rest on = (is, on rest)
 
 pub from-unbroken : (rules : List (ℕ × Bool)) → Unbroken rules → lowest rules ≡ None
 from-unbroken [] u = refl
@@ -121,26 +121,28 @@ module _ (c : Counts) (finished : List Command) where
   grows-begin : (p q : ℕ) → Sound c outside → broken c outside (begins p q) ≡ None → Grows c outside (begins p q)
   grows-begin p q sound ok =
       let kept = to-unbroken ((4, leb 16 (length finished)) ∷ begin-rules p q) ok in
-      let room : length finished < 16 = leb-false _ _ (kept .0) in
-      (
+      let room : length finished < 16 = leb-false _ _ (kept .0) in (
         record {
           few = sound .few;
           formed = sound .formed;
-          current = (room, record {
-            ranged = not-false _ (kept .1 .0);
-            few-tests = le-from 0;
-            few-steps = le-from 0;
-            fit-tests = refl;
-            valued-tests = refl;
-            fit-steps = refl;
-            valued-steps = refl;
-          });
+          current = (
+            room,
+            record {
+              ranged = not-false _ (kept .1 .0);
+              few-tests = le-from 0;
+              few-steps = le-from 0;
+              fit-tests = refl;
+              valued-tests = refl;
+              fit-steps = refl;
+              valued-steps = refl;
+            },
+          );
         },
         ap (λ l. l ++ code (begins p q)) (sym (append-nil (encode finished))),
       )
     where
-    le-from : (n : ℕ) → 0 ≤ 16
-    le-from n = omega arith
+      le-from : (n : ℕ) → 0 ≤ 16
+      le-from n = omega arith
 
   grows-test : (m : Command) (t : Test) → Sound c (inside m) → broken c (inside m) (tests t) ≡ None → Grows c (inside m) (tests t)
   grows-test m t sound ok =
@@ -151,28 +153,30 @@ module _ (c : Counts) (finished : List Command) where
       let ranged = and-parts (test-shaped (m .params) t) (test-valued c t) (not-false _ (kept .1 .1 .0)) in
       let row = not-false _ (kept .1 .1 .1 .0) in
       let start = code (begins (m .params) (m .cards)) in
-      let old = joined (λ x. code (tests x)) (m .tests) in
-      (
+      let old = joined (λ x. code (tests x)) (m .tests) in (
         record {
           few = sound .few;
           formed = sound .formed;
-          current = (sound .current .0, record {
-            ranged = good .ranged;
-            few-tests = omega (arith, length-push (m .tests) t);
-            few-steps = good .few-steps;
-            fit-tests = all-push _ (m .tests) t ∙ and-from _ _ (good .fit-tests) (and-from _ _ (ranged .0) row);
-            valued-tests = all-push _ (m .tests) t ∙ and-from _ _ (good .valued-tests) (ranged .1);
-            fit-steps = ap (each-after (step-fits (m .params) (m .cards) (m .tests ++ t ∷ [])) []) no-steps;
-            valued-steps = good .valued-steps;
-          });
+          current = (
+            sound .current .0,
+            record {
+              ranged = good .ranged;
+              few-tests = omega (arith, length-push (m .tests) t);
+              few-steps = good .few-steps;
+              fit-tests = all-push _ (m .tests) t ∙ and-from _ _ (good .fit-tests) (and-from _ _ (ranged .0) row);
+              valued-tests = all-push _ (m .tests) t ∙ and-from _ _ (good .valued-tests) (ranged .1);
+              fit-steps = ap (each-after (step-fits (m .params) (m .cards) (m .tests ++ t ∷ [])) []) no-steps;
+              valued-steps = good .valued-steps;
+            },
+          );
         },
         ap (λ l. encode finished ++ (start ++ (l ++ joined (λ s. code (steps s)) (m .steps)))) (joined-push (λ x. code (tests x)) (m .tests) t)
-        ∙ ap (λ l. encode finished ++ (start ++ ((old ++ code (tests t)) ++ joined (λ s. code (steps s)) l))) no-steps
-        ∙ ap (λ l. encode finished ++ (start ++ l)) (append-nil (old ++ code (tests t)))
-        ∙ ap (λ l. encode finished ++ l) (sym (append-assoc start old (code (tests t))))
-        ∙ sym (append-assoc (encode finished) (start ++ old) (code (tests t)))
-        ∙ ap (λ l. (encode finished ++ (start ++ l)) ++ code (tests t)) (sym (append-nil old))
-        ∙ ap (λ l. (encode finished ++ (start ++ (old ++ joined (λ s. code (steps s)) l))) ++ code (tests t)) (sym no-steps),
+            ∙ ap (λ l. encode finished ++ (start ++ ((old ++ code (tests t)) ++ joined (λ s. code (steps s)) l))) no-steps
+            ∙ ap (λ l. encode finished ++ (start ++ l)) (append-nil (old ++ code (tests t)))
+            ∙ ap (λ l. encode finished ++ l) (sym (append-assoc start old (code (tests t))))
+            ∙ sym (append-assoc (encode finished) (start ++ old) (code (tests t)))
+            ∙ ap (λ l. (encode finished ++ (start ++ l)) ++ code (tests t)) (sym (append-nil old))
+            ∙ ap (λ l. (encode finished ++ (start ++ (old ++ joined (λ s. code (steps s)) l))) ++ code (tests t)) (sym no-steps),
       )
 
   grows-step : (m : Command) (s : Step) → Sound c (inside m) → broken c (inside m) (steps s) ≡ None → Grows c (inside m) (steps s)
@@ -184,43 +188,44 @@ module _ (c : Counts) (finished : List Command) where
       let rules = not-false _ (kept .1 .1 .0) in
       let start = code (begins (m .params) (m .cards)) in
       let old = joined (λ x. code (tests x)) (m .tests) in
-      let done-steps = joined (λ x. code (steps x)) (m .steps) in
-      (
+      let done-steps = joined (λ x. code (steps x)) (m .steps) in (
         record {
           few = sound .few;
           formed = sound .formed;
-          current = (sound .current .0, record {
-            ranged = good .ranged;
-            few-tests = good .few-tests;
-            few-steps = omega (arith, length-push (m .steps) s);
-            fit-tests = good .fit-tests;
-            valued-tests = good .valued-tests;
-            fit-steps = each-push _ [] (m .steps) s ∙ and-from _ _ (good .fit-steps) (and-from _ _ (ranged .0) rules);
-            valued-steps = all-push _ (m .steps) s ∙ and-from _ _ (good .valued-steps) (ranged .1);
-          });
+          current = (
+            sound .current .0,
+            record {
+              ranged = good .ranged;
+              few-tests = good .few-tests;
+              few-steps = omega (arith, length-push (m .steps) s);
+              fit-tests = good .fit-tests;
+              valued-tests = good .valued-tests;
+              fit-steps = each-push _ [] (m .steps) s ∙ and-from _ _ (good .fit-steps) (and-from _ _ (ranged .0) rules);
+              valued-steps = all-push _ (m .steps) s ∙ and-from _ _ (good .valued-steps) (ranged .1);
+            },
+          );
         },
         ap (λ l. encode finished ++ (start ++ (old ++ l))) (joined-push (λ x. code (steps x)) (m .steps) s)
-        ∙ ap (λ l. encode finished ++ (start ++ l)) (sym (append-assoc old done-steps (code (steps s))))
-        ∙ ap (λ l. encode finished ++ l) (sym (append-assoc start (old ++ done-steps) (code (steps s))))
-        ∙ sym (append-assoc (encode finished) (start ++ (old ++ done-steps)) (code (steps s))),
+            ∙ ap (λ l. encode finished ++ (start ++ l)) (sym (append-assoc old done-steps (code (steps s))))
+            ∙ ap (λ l. encode finished ++ l) (sym (append-assoc start (old ++ done-steps) (code (steps s))))
+            ∙ sym (append-assoc (encode finished) (start ++ (old ++ done-steps)) (code (steps s))),
       )
 
   grows-end : (m : Command) → Sound c (inside m) → Grows c (inside m) ends
   grows-end m sound =
       let start = code (begins (m .params) (m .cards)) in
       let old = joined (λ x. code (tests x)) (m .tests) in
-      let done-steps = joined (λ x. code (steps x)) (m .steps) in
-      (
+      let done-steps = joined (λ x. code (steps x)) (m .steps) in (
         record {
           few = omega (arith, length-push finished m, sound .current .0);
           formed = all-push _ finished m ∙ and-from _ _ (sound .formed) (from-good c m (sound .current .1));
           current = tt;
         },
         append-nil (encode (finished ++ m ∷ []))
-        ∙ joined-push encode-command finished m
-        ∙ ap (λ l. encode finished ++ (start ++ l)) (sym (append-assoc old done-steps (code ends)))
-        ∙ ap (λ l. encode finished ++ l) (sym (append-assoc start (old ++ done-steps) (code ends)))
-        ∙ sym (append-assoc (encode finished) (start ++ (old ++ done-steps)) (code ends)),
+            ∙ joined-push encode-command finished m
+            ∙ ap (λ l. encode finished ++ (start ++ l)) (sym (append-assoc old done-steps (code ends)))
+            ∙ ap (λ l. encode finished ++ l) (sym (append-assoc start (old ++ done-steps) (code ends)))
+            ∙ sym (append-assoc (encode finished) (start ++ (old ++ done-steps)) (code ends)),
       )
 
 some-none : (n : ℕ) → Some n ≡ None → ⊥
@@ -250,8 +255,7 @@ sound-start c = record { few = omega arith; formed = refl; current = tt }
 -- a tape that is read whole is the encoding of well-formed commands
 pub whole-encodes : (c : Counts) (tape : List ℕ) (finished : List Command) → Whole (scheme-grammar c) tape (record { finished = finished; current = None }) → (tape ≡ encode finished) × (well-formed c finished ≡ true)
 whole-encodes c tape finished w =
-    let run = sound-run c (w .lawful) (sound-start c) in
-    (
+    let run = sound-run c (w .lawful) (sound-start c) in (
       w .split ∙ sym (run .1) ∙ append-nil (encode finished),
       and-from _ _ (le-leb _ _ (run .0 .few)) (run .0 .formed),
     )

@@ -17,7 +17,13 @@ abbrev pub SchemeRead : Counts → List ℕ → Answer (List Command) → Type 0
 SchemeRead c tape (accepted commands) = (tape ≡ encode commands) × (well-formed c commands ≡ true)
 SchemeRead c tape (refused layer number place) = (layer ≡ 1) × Refused (scheme-grammar c) tape number place
 
--- No tape has two readings. So a tape that is the encoding of well-formed commands is accepted, with just these, and any
--- other is refused.
+-- A tape is accepted exactly if it is the encoding of well-formed commands, and then with these.
+abbrev pub AcceptedExactly : Counts → List ℕ → Answer (List Command) → Type 0
+AcceptedExactly c tape answer =
+    (commands : List Command)
+    → (answer ≡ accepted commands → (tape ≡ encode commands) × (well-formed c commands ≡ true))
+    × ((tape ≡ encode commands) × (well-formed c commands ≡ true) → answer ≡ accepted commands)
+
+-- No tape has two readings.
 abbrev pub OneReading : Counts → Type 0
 OneReading c = (tape : List ℕ) (a b : Answer (List Command)) → SchemeRead c tape a → SchemeRead c tape b → a ≡ b

@@ -8,12 +8,12 @@ ghost use Rattle.scheme.specs.Views.{commands-of};
 use scheme::command::Command;
 use scheme::scheme::Scheme;
 
-pub mod orders;
-pub mod parts;
+mod orders;
+mod parts;
 
 // Where a command is open there is room for it.
 #[derive(Copy)]
-pub struct Draft {
+pub(crate) struct Draft {
     scheme: Scheme,
     current: Option<Command>,
     ghost room: { (not (isSome current) || ltb (length (commands-of scheme)) 16) ≡ true },
@@ -21,7 +21,7 @@ pub struct Draft {
 
 // Where the tape is: outside a command, among its tests, or among its steps.
 #[derive(Clone, Copy)]
-pub enum Phase {
+pub(crate) enum Phase {
     Outside,
     Tests,
     Steps,

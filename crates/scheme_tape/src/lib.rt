@@ -1,3 +1,3 @@
 // The scheme tape: which commands it stands for, or why it is refused.
-pub mod draft;
+mod draft;
 pub mod reader;

@@ -1,8 +1,9 @@
 // The scheme reader.
 ghost use mathlib.Core.Path.{_≡_};
 ghost use Rattle.model.specs.Answers.{answer};
+ghost use Rattle.model.specs.Counts.{counts-by};
 ghost use Rattle.scheme.specs.Views.{commands-of};
-ghost use Rattle.scheme_tape.specs.Reading.{SchemeRead, OneReading};
+ghost use Rattle.scheme_tape.specs.Reading.{SchemeRead, AcceptedExactly, OneReading};
 use crate::draft::Draft;
 use model::counts::Counts;
 use model::fault::Fault;
@@ -29,8 +30,9 @@ fn read_by(counts: &Counts, tape: &[u8]) -> Result<Scheme, Fault>
 
 // The scheme that the tape stands for under any four scales, or the first rule that it breaks.
 pub fn read_scheme<S0: Scale, S1: Scale, S2: Scale, S3: Scale>(tape: &[u8]) -> Result<Scheme, Fault>
-    ensures reading { λ r. ⌜ SchemeRead (record { a0 = S0·Scale .count; a1 = S1·Scale .count; a2 = S2·Scale .count; a3 = S3·Scale .count }) (now (tape .entry)) (answer commands-of r) ⌝ }
-    ensures law { λ _. ⌜ OneReading (record { a0 = S0·Scale .count; a1 = S1·Scale .count; a2 = S2·Scale .count; a3 = S3·Scale .count }) ⌝ }
+    ensures reading { λ r. ⌜ SchemeRead (counts-by (S0·Scale .count) (S1·Scale .count) (S2·Scale .count) (S3·Scale .count)) (now (tape .entry)) (answer commands-of r) ⌝ }
+    ensures exact { λ r. ⌜ AcceptedExactly (counts-by (S0·Scale .count) (S1·Scale .count) (S2·Scale .count) (S3·Scale .count)) (now (tape .entry)) (answer commands-of r) ⌝ }
+    ensures law { λ _. ⌜ OneReading (counts-by (S0·Scale .count) (S1·Scale .count) (S2·Scale .count) (S3·Scale .count)) ⌝ }
 {
     let counts = Counts::of::<S0, S1, S2, S3>();
     read_by(&counts, tape)

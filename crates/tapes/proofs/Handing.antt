@@ -90,9 +90,9 @@ module _ (byte : ℕ) (rest : List ℕ) (k : Case) where
   row-found None h = absurd (let z : _≡_ {A = ℕ} 0 1 = cc in omega arith)
   row-found (Some row) h = (refl, number-by (leb (row .operands) (length rest)) h)
     where
-    number-by : (b : Bool) → cond b (Some (record { number = byte; values = take (row .operands) rest })) None ≡ Some k → k .number ≡ byte
-    number-by true e = let is : record { number = byte; values = take (row .operands) rest } ≡ k = cc in sym (ap (λ (o : Case). o .number) is)
-    number-by false e = absurd (let z : _≡_ {A = ℕ} 0 1 = cc in omega arith)
+      number-by : (b : Bool) → cond b (Some (record { number = byte; values = take (row .operands) rest })) None ≡ Some k → k .number ≡ byte
+      number-by true e = let is : record { number = byte; values = take (row .operands) rest } ≡ k = cc in sym (ap (λ (o : Case). o .number) is)
+      number-by false e = absurd (let z : _≡_ {A = ℕ} 0 1 = cc in omega arith)
 
 pub order-splits : (tape : Tape) (bytes : List ℕ) (k : Case) → first-order tape bytes ≡ Some k → bytes ≡ spelt k ++ drop (size-of k) bytes
 order-splits tape [] k h = absurd (let z : _≡_ {A = ℕ} 0 1 = cc in omega arith)

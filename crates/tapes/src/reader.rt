@@ -28,7 +28,11 @@ pub fn tape_length(bytes: &[u8], tape: Tape) -> Result<u16, Fault>
     ensures { λ r. ⌜ answer (λ n. n) r ≡ measured tape (now (bytes .entry)) ⌝ }
 {
     if bytes.len() > LONGEST as usize {
-        return Err(Fault { layer: tape.layer(), reason: Reason::TapeTooLong, place: LONGEST });
+        return Err(Fault {
+            layer: tape.layer(),
+            reason: Reason::TapeTooLong,
+            place: LONGEST,
+        });
     }
     Ok(bytes.len() as u16)
 }
@@ -59,7 +63,11 @@ fn first_order<'a>(bytes: &'a [u8], tape: Tape) -> Option<(Order<'a>, u16)>
 pub fn next_order<'a>(bytes: &'a [u8], offset: u16, tape: Tape) -> Result<Placed<'a>, Fault>
     ensures { λ r. ⌜ answer placed r ≡ handed-on tape offset (first-order tape (drop offset (now (bytes .entry)))) ⌝ }
 {
-    let refusal = Fault { layer: tape.layer(), reason: Reason::NoOrder, place: offset };
+    let refusal = Fault {
+        layer: tape.layer(),
+        reason: Reason::NoOrder,
+        place: offset,
+    };
     if offset as usize > bytes.len() {
         return Err(refusal);
     }
@@ -67,5 +75,9 @@ pub fn next_order<'a>(bytes: &'a [u8], offset: u16, tape: Tape) -> Result<Placed
     let Some((order, size)) = first_order(rest, tape) else {
         return Err(refusal);
     };
-    Ok(Placed { order, offset, size })
+    Ok(Placed {
+        order,
+        offset,
+        size,
+    })
 }

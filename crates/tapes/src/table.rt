@@ -11,23 +11,91 @@ pub struct OrderRow {
 }
 
 const ORDERS: [OrderRow; 17] = [
-    OrderRow { byte: 0x10, operands: 2, tape: Tape::Scheme },
-    OrderRow { byte: 0x1F, operands: 0, tape: Tape::Scheme },
-    OrderRow { byte: 0x20, operands: 3, tape: Tape::Scheme },
-    OrderRow { byte: 0x21, operands: 3, tape: Tape::Scheme },
-    OrderRow { byte: 0x22, operands: 3, tape: Tape::Scheme },
-    OrderRow { byte: 0x23, operands: 3, tape: Tape::Scheme },
-    OrderRow { byte: 0x30, operands: 3, tape: Tape::Scheme },
-    OrderRow { byte: 0x31, operands: 3, tape: Tape::Scheme },
-    OrderRow { byte: 0x32, operands: 3, tape: Tape::Scheme },
-    OrderRow { byte: 0x33, operands: 1, tape: Tape::Scheme },
-    OrderRow { byte: 0x34, operands: 1, tape: Tape::Scheme },
-    OrderRow { byte: 0x40, operands: 5, tape: Tape::Opening },
-    OrderRow { byte: 0x41, operands: 5, tape: Tape::Opening },
-    OrderRow { byte: 0x42, operands: 3, tape: Tape::Opening },
-    OrderRow { byte: 0x50, operands: 5, tape: Tape::Certificate },
-    OrderRow { byte: 0x51, operands: 4, tape: Tape::Certificate },
-    OrderRow { byte: 0x60, operands: 5, tape: Tape::Bans },
+    OrderRow {
+        byte: 0x10,
+        operands: 2,
+        tape: Tape::Scheme,
+    },
+    OrderRow {
+        byte: 0x1F,
+        operands: 0,
+        tape: Tape::Scheme,
+    },
+    OrderRow {
+        byte: 0x20,
+        operands: 3,
+        tape: Tape::Scheme,
+    },
+    OrderRow {
+        byte: 0x21,
+        operands: 3,
+        tape: Tape::Scheme,
+    },
+    OrderRow {
+        byte: 0x22,
+        operands: 3,
+        tape: Tape::Scheme,
+    },
+    OrderRow {
+        byte: 0x23,
+        operands: 3,
+        tape: Tape::Scheme,
+    },
+    OrderRow {
+        byte: 0x30,
+        operands: 3,
+        tape: Tape::Scheme,
+    },
+    OrderRow {
+        byte: 0x31,
+        operands: 3,
+        tape: Tape::Scheme,
+    },
+    OrderRow {
+        byte: 0x32,
+        operands: 3,
+        tape: Tape::Scheme,
+    },
+    OrderRow {
+        byte: 0x33,
+        operands: 1,
+        tape: Tape::Scheme,
+    },
+    OrderRow {
+        byte: 0x34,
+        operands: 1,
+        tape: Tape::Scheme,
+    },
+    OrderRow {
+        byte: 0x40,
+        operands: 5,
+        tape: Tape::Opening,
+    },
+    OrderRow {
+        byte: 0x41,
+        operands: 5,
+        tape: Tape::Opening,
+    },
+    OrderRow {
+        byte: 0x42,
+        operands: 3,
+        tape: Tape::Opening,
+    },
+    OrderRow {
+        byte: 0x50,
+        operands: 5,
+        tape: Tape::Certificate,
+    },
+    OrderRow {
+        byte: 0x51,
+        operands: 4,
+        tape: Tape::Certificate,
+    },
+    OrderRow {
+        byte: 0x60,
+        operands: 5,
+        tape: Tape::Bans,
+    },
 ];
 
 // The first row of the byte in a table.

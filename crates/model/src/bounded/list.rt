@@ -13,7 +13,10 @@ impl<T: Copy, const N: usize> Bounded<T, N> {
     pub fn empty(filler: T) -> Self
         ensures { λ r. ⌜ listed r ≡ [] ⌝ }
     {
-        Bounded { items: [filler; N], len: 0 }
+        Bounded {
+            items: [filler; N],
+            len: 0,
+        }
     }
 
     pub fn len(&self) -> usize

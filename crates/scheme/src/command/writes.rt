@@ -13,7 +13,12 @@ use model::counts::Counts;
 use model::fault::Reason;
 
 // What stands in the unused room of a list; it is never seen.
-const FILLING_TEST: Test = Test::Covers { upper: 0, attribute: 0, lower: 0 };
+const FILLING_TEST: Test = Test::Covers {
+    upper: 0,
+    attribute: 0,
+    lower: 0,
+};
+
 const FILLING_STEP: Step = Step::Create { parameter: 0 };
 
 impl Command {
@@ -21,7 +26,12 @@ impl Command {
     pub fn idle() -> Command
         ensures { λ r. ⌜ view r ≡ begun 1 0 ⌝ }
     {
-        Command { params: 1, cards: 0, tests: Bounded::empty(FILLING_TEST), steps: Bounded::empty(FILLING_STEP) }
+        Command {
+            params: 1,
+            cards: 0,
+            tests: Bounded::empty(FILLING_TEST),
+            steps: Bounded::empty(FILLING_STEP),
+        }
     }
 
     // A command with no tests and no steps yet.
@@ -35,7 +45,12 @@ impl Command {
         if cards >= 1 << params {
             return Err(Reason::OutOfRange);
         }
-        Ok(Command { params, cards, tests: Bounded::empty(FILLING_TEST), steps: Bounded::empty(FILLING_STEP) })
+        Ok(Command {
+            params,
+            cards,
+            tests: Bounded::empty(FILLING_TEST),
+            steps: Bounded::empty(FILLING_STEP),
+        })
     }
 
     // One test more, at the end.
@@ -70,7 +85,12 @@ impl Command {
         if !step.is_in_range(self.params, counts) {
             return Err(Reason::OutOfRange);
         }
-        if !keeps_parameter_rules(self.cards, self.tests.as_slice(), self.steps.as_slice(), step) {
+        if !keeps_parameter_rules(
+            self.cards,
+            self.tests.as_slice(),
+            self.steps.as_slice(),
+            step,
+        ) {
             return Err(Reason::ParameterRule);
         }
         self.steps.push(step);

@@ -14,13 +14,16 @@ use scheme::step::Step;
 use scheme::test::Test;
 
 impl Draft {
-    pub fn empty() -> Draft
+    pub(crate) fn empty() -> Draft
         ensures { λ r. ⌜ draft-of r ≡ empty-draft ⌝ }
     {
-        Draft { scheme: Scheme::empty(), current: None }
+        Draft {
+            scheme: Scheme::empty(),
+            current: None,
+        }
     }
 
-    pub fn phase(&self) -> Phase
+    pub(crate) fn phase(&self) -> Phase
         ensures { λ r. ⌜ r ≡ phase-of (draft-of (now (self .entry))) ⌝ }
     {
         match &self.current {
@@ -36,7 +39,7 @@ impl Draft {
     }
 
     // Begin a command.
-    pub fn begin(&mut self, counts: &Counts, params: u8, cards: u8) -> Result<(), Reason>
+    pub(crate) fn begin(&mut self, counts: &Counts, params: u8, cards: u8) -> Result<(), Reason>
         ensures answer { λ r. ⌜ refused-by r ≡ broken (now (counts .entry)) (draft-of (now (self .entry))) (begins params cards) ⌝ }
         ensures after { λ r. ⌜ draft-of (now (self .exit)) ≡ unless (refused-by r) (draft-of (now (self .entry))) (extended (draft-of (now (self .entry))) (begins params cards)) ⌝ }
     {
@@ -52,7 +55,7 @@ impl Draft {
     }
 
     // Add a test to the open command.
-    pub fn test(&mut self, counts: &Counts, test: Test) -> Result<(), Reason>
+    pub(crate) fn test(&mut self, counts: &Counts, test: Test) -> Result<(), Reason>
         ensures answer { λ r. ⌜ refused-by r ≡ broken (now (counts .entry)) (draft-of (now (self .entry))) (tests test) ⌝ }
         ensures after { λ r. ⌜ draft-of (now (self .exit)) ≡ unless (refused-by r) (draft-of (now (self .entry))) (extended (draft-of (now (self .entry))) (tests test)) ⌝ }
     {
@@ -66,7 +69,7 @@ impl Draft {
     }
 
     // Add a step to the open command.
-    pub fn step(&mut self, counts: &Counts, step: Step) -> Result<(), Reason>
+    pub(crate) fn step(&mut self, counts: &Counts, step: Step) -> Result<(), Reason>
         ensures answer { λ r. ⌜ refused-by r ≡ broken (now (counts .entry)) (draft-of (now (self .entry))) (steps step) ⌝ }
         ensures after { λ r. ⌜ draft-of (now (self .exit)) ≡ unless (refused-by r) (draft-of (now (self .entry))) (extended (draft-of (now (self .entry))) (steps step)) ⌝ }
     {
@@ -80,7 +83,7 @@ impl Draft {
     }
 
     // End the open command.
-    pub fn end(&mut self, counts: &Counts) -> Result<(), Reason>
+    pub(crate) fn end(&mut self, counts: &Counts) -> Result<(), Reason>
         ensures answer { λ r. ⌜ refused-by r ≡ broken (now (counts .entry)) (draft-of (now (self .entry))) ends ⌝ }
         ensures after { λ r. ⌜ draft-of (now (self .exit)) ≡ unless (refused-by r) (draft-of (now (self .entry))) (extended (draft-of (now (self .entry))) ends) ⌝ }
     {

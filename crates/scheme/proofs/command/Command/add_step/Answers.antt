@@ -13,11 +13,16 @@ ghost-self-2 c =
     let self = c .args .self .now in
     let room : length (listed (self .steps)) < 16 = omega arith in
     let new = pushed (c .push .result) (listed (self .steps)) (c .args .step) (listed (c .push .last .self)) 16 room (c .push .ensures .room) (c .push .ensures .items) in
-    let kept : (step-row-declared (self .cards) (c .args .step) && well-placed (listed (self .tests)) (listed (self .steps)) (c .args .step)) ≡ true = rw (← c .as-slice .ensures, ← c .as-slice-2 .ensures) (sym (c .if-not-keeps-parameter-rules .ensures tt)) in
-    (
+    let kept : (step-row-declared (self .cards) (c .args .step) && well-placed (listed (self .tests)) (listed (self .steps)) (c .args .step)) ≡ true = rw (← c .as-slice .ensures, ← c .as-slice-2 .ensures) (sym (c .if-not-keeps-parameter-rules .ensures tt)) in (
       self .some,
-      (self .few,
-      (self .declared,
-      (self .tested,
-      (steps-grow (self .params) (self .cards) (listed (self .tests)) (listed (self .steps)) (c .args .step) _ _ new (self .stepped) (sym (c .if-not-is-in-range .ensures tt)) kept, tt)))),
+      (
+        self .few,
+        (
+          self .declared,
+          (
+            self .tested,
+            (steps-grow (self .params) (self .cards) (listed (self .tests)) (listed (self .steps)) (c .args .step) _ _ new (self .stepped) (sym (c .if-not-is-in-range .ensures tt)) kept, tt),
+          ),
+        ),
+      ),
     )
