@@ -13,14 +13,19 @@ use model::bounded::Bounded;
 pub mod reads;
 pub mod writes;
 
+// How many tests, and how many steps, a command has at most.
+pub const TESTS: usize = 16;
+
+pub const STEPS: usize = 16;
+
 // Bit i of `cards` declares parameter i a card. Every value keeps the rules on parameters, rows, and what is created and
 // destroyed; whether values lie in their scales is the reader's matter, since the scales are not known here.
 #[derive(Copy)]
 pub struct Command {
     params: u8,
     cards: u8,
-    tests: Bounded<Test, 16>,
-    steps: Bounded<Step, 16>,
+    tests: Bounded<Test, TESTS>,
+    steps: Bounded<Step, STEPS>,
     ghost some: { 1 ≤ params },
     ghost few: { params ≤ 3 },
     ghost declared: { cards < 2 ^ params },

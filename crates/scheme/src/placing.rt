@@ -37,21 +37,10 @@ fn is_well_placed(tests: &[Test], before: &[Step], step: Step) -> bool
     ensures { λ r. ⌜ r ≡ well-placed (now (tests .entry)) (now (before .entry)) step ⌝ }
 {
     match step {
-        Step::Enter {
-            right: _,
-            row,
-            column,
+        Step::Enter { row, column, .. } | Step::Delete { row, column, .. } => {
+            no_step(before, Touch::Destroys, row) && no_step(before, Touch::Destroys, column)
         }
-        | Step::Delete {
-            right: _,
-            row,
-            column,
-        } => { no_step(before, Touch::Destroys, row) && no_step(before, Touch::Destroys, column) }
-        Step::Set {
-            parameter,
-            attribute: _,
-            value: _,
-        } => no_step(before, Touch::Destroys, parameter),
+        Step::Set { parameter, .. } => no_step(before, Touch::Destroys, parameter),
         Step::Create { parameter } => no_test(tests, parameter)
             && no_step(before, Touch::Names, parameter),
         Step::Destroy { parameter } => {

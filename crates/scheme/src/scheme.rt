@@ -8,9 +8,12 @@ ghost use Rattle.scheme.specs.Views.{view, commands-of};
 use crate::command::Command;
 use model::bounded::Bounded;
 
+// How many commands a scheme has at most.
+pub const COMMANDS: usize = 16;
+
 #[derive(Copy)]
 pub struct Scheme {
-    commands: Bounded<Command, 16>,
+    commands: Bounded<Command, COMMANDS>,
 }
 
 impl Scheme {

@@ -54,21 +54,9 @@ impl Step {
         ensures { λ r. ⌜ r ≡ names-in-step i self ⌝ }
     {
         match self {
-            Step::Enter {
-                right: _,
-                row,
-                column,
-            } => i == row || i == column,
-            Step::Delete {
-                right: _,
-                row,
-                column,
-            } => i == row || i == column,
-            Step::Set {
-                parameter,
-                attribute: _,
-                value: _,
-            } => i == parameter,
+            Step::Enter { row, column, .. } => i == row || i == column,
+            Step::Delete { row, column, .. } => i == row || i == column,
+            Step::Set { parameter, .. } => i == parameter,
             Step::Create { parameter } => i == parameter,
             Step::Destroy { parameter } => i == parameter,
         }
@@ -102,7 +90,7 @@ impl Step {
             Step::Set {
                 parameter,
                 attribute,
-                value: _,
+                ..
             } => parameter < params && attribute < ATTRIBUTES,
             Step::Create { parameter } => parameter < params,
             Step::Destroy { parameter } => parameter < params,
@@ -115,9 +103,9 @@ impl Step {
     {
         match self {
             Step::Set {
-                parameter: _,
                 attribute,
                 value,
+                ..
             } => counts.is_value(attribute, value),
             _ => true,
         }
@@ -134,16 +122,8 @@ impl Step {
         ensures { λ r. ⌜ r ≡ step-row-declared cards self ⌝ }
     {
         match self {
-            Step::Enter {
-                right: _,
-                row,
-                column: _,
-            } => holds(u16::from(cards), row),
-            Step::Delete {
-                right: _,
-                row,
-                column: _,
-            } => holds(u16::from(cards), row),
+            Step::Enter { row, .. } => holds(u16::from(cards), row),
+            Step::Delete { row, .. } => holds(u16::from(cards), row),
             _ => true,
         }
     }

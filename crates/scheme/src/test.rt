@@ -46,26 +46,10 @@ impl Test {
         ensures { λ r. ⌜ r ≡ names-in-test i self ⌝ }
     {
         match self {
-            Test::Holds {
-                right: _,
-                row,
-                column,
-            } => i == row || i == column,
-            Test::Is {
-                parameter,
-                attribute: _,
-                value: _,
-            } => i == parameter,
-            Test::IsNot {
-                parameter,
-                attribute: _,
-                value: _,
-            } => i == parameter,
-            Test::Covers {
-                upper,
-                attribute: _,
-                lower,
-            } => i == upper || i == lower,
+            Test::Holds { row, column, .. } => i == row || i == column,
+            Test::Is { parameter, .. } => i == parameter,
+            Test::IsNot { parameter, .. } => i == parameter,
+            Test::Covers { upper, lower, .. } => i == upper || i == lower,
         }
     }
 
@@ -78,12 +62,12 @@ impl Test {
             Test::Is {
                 parameter,
                 attribute,
-                value: _,
+                ..
             } => parameter < params && attribute < ATTRIBUTES,
             Test::IsNot {
                 parameter,
                 attribute,
-                value: _,
+                ..
             } => parameter < params && attribute < ATTRIBUTES,
             Test::Covers {
                 upper,
@@ -99,14 +83,14 @@ impl Test {
     {
         match self {
             Test::Is {
-                parameter: _,
                 attribute,
                 value,
+                ..
             } => counts.is_null_or_value(attribute, value),
             Test::IsNot {
-                parameter: _,
                 attribute,
                 value,
+                ..
             } => counts.is_null_or_value(attribute, value),
             _ => true,
         }
@@ -123,11 +107,7 @@ impl Test {
         ensures { λ r. ⌜ r ≡ test-row-declared cards self ⌝ }
     {
         match self {
-            Test::Holds {
-                right: _,
-                row,
-                column: _,
-            } => holds(u16::from(cards), row),
+            Test::Holds { row, .. } => holds(u16::from(cards), row),
             _ => true,
         }
     }

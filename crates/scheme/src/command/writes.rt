@@ -5,6 +5,8 @@ ghost use Rattle.model.specs.Answers.{refused-by, lowest, unless};
 ghost use Rattle.scheme.specs.Commands.{begun, with-test, with-step, begin-rules, test-rules, step-rules};
 ghost use Rattle.scheme.specs.Views.{view};
 use crate::command::Command;
+use crate::command::STEPS;
+use crate::command::TESTS;
 use crate::placing::keeps_parameter_rules;
 use crate::step::Step;
 use crate::test::Test;
@@ -61,7 +63,7 @@ impl Command {
         if self.steps.len() > 0 {
             return Err(Reason::OutOfPlace);
         }
-        if self.tests.len() >= 16 {
+        if self.tests.len() >= TESTS {
             return Err(Reason::TooMany);
         }
         if !test.is_in_range(self.params, counts) {
@@ -79,7 +81,7 @@ impl Command {
         ensures answer { λ r. ⌜ refused-by r ≡ lowest (step-rules (now (counts .entry)) (view (now (self .entry))) step) ⌝ }
         ensures after { λ r. ⌜ view (now (self .exit)) ≡ unless (refused-by r) (view (now (self .entry))) (with-step (view (now (self .entry))) step) ⌝ }
     {
-        if self.steps.len() >= 16 {
+        if self.steps.len() >= STEPS {
             return Err(Reason::TooMany);
         }
         if !step.is_in_range(self.params, counts) {

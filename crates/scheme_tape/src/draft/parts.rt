@@ -9,6 +9,7 @@ use crate::draft::Phase;
 use model::counts::Counts;
 use model::fault::Reason;
 use scheme::command::Command;
+use scheme::scheme::COMMANDS;
 use scheme::scheme::Scheme;
 use scheme::step::Step;
 use scheme::test::Test;
@@ -46,7 +47,7 @@ impl Draft {
         let None = self.current else {
             return Err(Reason::OutOfPlace);
         };
-        if self.scheme.len() >= 16 {
+        if self.scheme.len() >= COMMANDS {
             return Err(Reason::TooMany);
         }
         let command = Command::begin(params, cards)?;
