@@ -1,8 +1,10 @@
 -- The table of orders: byte, number of operands, and the tape that the order belongs to.
+use mathlib.Core.Path.{_≡_}
 use mathlib.Core.Bool.{cond}
 use mathlib.Core.List.{List, [], _∷_}
-use Prim.Native.Nat.{ℕ}
+use Prim.Native.Nat.{ℕ, _<_}
 use lib.Dec.{eqb}
+use lib.ListN.{length, getD}
 use Rattle.std.specs.declared.option.Option.{Option}
 use Rattle.std.specs.declared.option.Option.the-variants.{Some, None}
 use Rattle.tapes.specs.declared.table.OrderRow.{OrderRow}
@@ -40,3 +42,11 @@ find-row byte (r ∷ rs) = cond (eqb (r .byte) byte) (Some r) (find-row byte rs)
 
 abbrev pub row-of : ℕ → Option OrderRow
 row-of byte = find-row byte rows
+
+-- the byte of the row at a place
+abbrev pub byte-at : ℕ → ℕ
+byte-at i = getD rows i (row 0 0 Scheme) .byte
+
+-- The table's rule: no byte has two rows, so the first row of a byte is its only one.
+abbrev pub OneRow : Type 0
+OneRow = (i j : ℕ) → i < length rows → j < length rows → byte-at i ≡ byte-at j → i ≡ j

@@ -1,6 +1,6 @@
 // The table of orders: each order's byte, how many one-byte operands follow it, and the tape that it belongs to.
 ghost use mathlib.Core.Path.{_≡_};
-ghost use Rattle.tapes.specs.Table.{find-row, row-of};
+ghost use Rattle.tapes.specs.Table.{find-row, row-of, OneRow};
 use crate::tape::Tape;
 
 #[derive(Clone, Copy)]
@@ -112,7 +112,8 @@ fn find_row(table: &[OrderRow], byte: u8) -> Option<OrderRow>
 
 // The row of a byte, where it is an order of any tape.
 pub fn row_of(byte: u8) -> Option<OrderRow>
-    ensures { λ r. ⌜ r ≡ row-of byte ⌝ }
+    ensures row { λ r. ⌜ r ≡ row-of byte ⌝ }
+    ensures rule { λ _. ⌜ OneRow ⌝ }
 {
     find_row(&ORDERS, byte)
 }
