@@ -31,9 +31,9 @@ pub impl fmt::Display for Answer as AnswerDisplay {
 
 fn write_accepted<W: fmt::Write>(f: &mut fmt::Formatter<W>, count: usize) -> fmt::Result {
     match count {
-        0 => write!(f, "ok -- no commands"),
-        1 => write!(f, "ok -- 1 command"),
-        _ => write!(f, "ok -- {count} commands"),
+        0 => write!(f, "ok -- the scheme is accepted: no commands"),
+        1 => write!(f, "ok -- the scheme is accepted: 1 command"),
+        _ => write!(f, "ok -- the scheme is accepted: {count} commands"),
     }
 }
 
