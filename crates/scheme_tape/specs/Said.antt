@@ -13,9 +13,11 @@ use Rattle.tapes.specs.declared.order.Order.the-variants.{Begin, End, Holds, Is
 use Rattle.scheme_tape.specs.Drafts.{Draft, broken, extended}
 use Rattle.scheme_tape.specs.Instructions.{Instruction, begins, tests, steps, ends}
 
+-- operand k
 abbrev pub op : List ℕ → ℕ → ℕ
 op x k = getD x k 0
 
+-- the instruction that the order gives; an order of another tape gives none
 abbrev pub said : Order → Option Instruction
 said (Begin x) = Some (begins (op (x .now) 0) (op (x .now) 1))
 said End = Some ends
@@ -35,7 +37,7 @@ said (Stamp x) = None
 said (Allow x) = None
 said (Ban x) = None
 
--- an order of another tape is out of place
+-- the lowest rule that the order breaks; one of another tape is out of place
 abbrev pub broken-order : Counts → Draft → Option Instruction → Option ℕ
 broken-order c d None = Some 3
 broken-order c d (Some i) = broken c d i

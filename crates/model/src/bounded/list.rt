@@ -22,7 +22,7 @@ impl<T: Copy, const N: usize> Bounded<T, N> {
     pub fn len(&self) -> usize
         ensures { λ r. ⌜ r ≡ length (listed (now (self .entry))) ⌝ }
     {
-        self.len
+        self.as_slice().len()
     }
 
     // One element more at the end, or `false` and no change where the list is full.
