@@ -8,7 +8,7 @@ use crate::test::Parameter;
 use crate::test::Test;
 
 // Whether no step of these names, creates or destroys the parameter.
-fn no_step(steps: &[Step], how: Touch, i: Parameter) -> bool
+pub(crate) fn no_step(steps: &[Step], how: Touch, i: Parameter) -> bool
     ensures { λ r. ⌜ r ≡ no-step how i (now (steps .entry)) ⌝ }
 {
     for step in steps {

@@ -1,14 +1,10 @@
 // What a command takes as a parameter, or makes of it.
 ghost use mathlib.Core.Path.{_≡_};
 ghost use Rattle.std.specs.declared.option.Option.the-variants.{Some};
-ghost use Rattle.scheme.specs.Lists.{any};
-ghost use Rattle.scheme.specs.Steps.{creates-in-step};
 ghost use Rattle.scheme.specs.Views.{view};
 ghost use Rattle.words.specs.Roles.{role, role-words};
 use model::mask::holds;
 use scheme::command::Command;
-use scheme::step::Step;
-use scheme::step::Touch;
 use scheme::test::Parameter;
 use std::fmt;
 
@@ -22,24 +18,12 @@ pub enum Role {
     NewThing,
 }
 
-// Whether one of the steps creates the parameter.
-fn is_created(steps: &[Step], i: Parameter) -> bool
-    ensures { λ r. ⌜ r ≡ any (creates-in-step i) (now (steps .entry)) ⌝ }
-{
-    for step in steps {
-        if step.touches(Touch::Creates, i) {
-            return true;
-        }
-    }
-    false
-}
-
 impl Role {
     pub fn of(command: &Command, i: Parameter) -> Role
         ensures { λ r. ⌜ r ≡ role (view (now (command .entry))) i ⌝ }
     {
         let is_card = holds(u16::from(command.cards()), i);
-        match (is_created(command.steps(), i), is_card) {
+        match (command.creates(i), is_card) {
             (false, true) => Role::Card,
             (false, false) => Role::AnyEntry,
             (true, true) => Role::NewCard,

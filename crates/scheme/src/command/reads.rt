@@ -1,8 +1,13 @@
 // What a command says.
 ghost use mathlib.Core.Path.{_≡_};
+ghost use Rattle.scheme.specs.Lists.{any};
+ghost use Rattle.scheme.specs.Steps.{creates-in-step};
 ghost use Rattle.scheme.specs.Views.{view};
 use crate::command::Command;
+use crate::placing::no_step;
 use crate::step::Step;
+use crate::step::Touch;
+use crate::test::Parameter;
 use crate::test::Test;
 
 impl Command {
@@ -28,5 +33,12 @@ impl Command {
         ensures { λ r. ⌜ now r ≡ view (now (self .entry)) .steps ⌝ }
     {
         self.steps.as_slice()
+    }
+
+    // Whether one of the steps creates the parameter.
+    pub fn creates(&self, i: Parameter) -> bool
+        ensures { λ r. ⌜ r ≡ any (creates-in-step i) (view (now (self .entry)) .steps) ⌝ }
+    {
+        !no_step(self.steps.as_slice(), Touch::Creates, i)
     }
 }
