@@ -13,7 +13,7 @@ use tapes::reader::next_order;
 use tapes::reader::tape_length;
 use tapes::tape::Tape;
 
-// The same, where only the scales' counts are known: they are all that a tape's rules hang on.
+// The reader by the scales' counts: they are all that a tape's rules hang on.
 fn read_by(counts: &Counts, tape: &[u8]) -> Result<Scheme, Fault>
     ensures { λ r. ⌜ SchemeRead (now (counts .entry)) (now (tape .entry)) (answer commands-of r) ⌝ }
 {

@@ -24,7 +24,7 @@ impl Draft {
         ensures after { λ r. ⌜ draft-of (now (self .exit)) ≡ unless (refused-by r) (draft-of (now (self .entry))) (extended-order (draft-of (now (self .entry))) (said (order .entry))) ⌝ }
     {
         match (self.phase(), order) {
-            (Phase::Outside, Order::Begin(x)) => self.begin(counts, x[0], x[1]),
+            (Phase::Outside, Order::Begin(x)) => self.begin(x[0], x[1]),
             (Phase::Tests, Order::Holds(x)) => self.test(
                 counts,
                 Test::Holds {
@@ -99,7 +99,7 @@ impl Draft {
                 counts,
                 Step::Destroy { parameter: x[0] },
             ),
-            (Phase::Tests | Phase::Steps, Order::End) => self.end(counts),
+            (Phase::Tests | Phase::Steps, Order::End) => self.end(),
             _ => Err(Reason::OutOfPlace),
         }
     }

@@ -40,8 +40,8 @@ impl Draft {
     }
 
     // Begin a command.
-    pub(crate) fn begin(&mut self, counts: &Counts, params: u8, cards: u8) -> Result<(), Reason>
-        ensures answer { λ r. ⌜ refused-by r ≡ broken (now (counts .entry)) (draft-of (now (self .entry))) (begins params cards) ⌝ }
+    pub(crate) fn begin(&mut self, params: u8, cards: u8) -> Result<(), Reason>
+        ensures answer { λ r. ⌜ ((c : Counts) → refused-by r ≡ broken c (draft-of (now (self .entry))) (begins params cards)) ⌝ }
         ensures after { λ r. ⌜ draft-of (now (self .exit)) ≡ unless (refused-by r) (draft-of (now (self .entry))) (extended (draft-of (now (self .entry))) (begins params cards)) ⌝ }
     {
         let None = self.current else {
@@ -84,8 +84,8 @@ impl Draft {
     }
 
     // End the open command.
-    pub(crate) fn end(&mut self, counts: &Counts) -> Result<(), Reason>
-        ensures answer { λ r. ⌜ refused-by r ≡ broken (now (counts .entry)) (draft-of (now (self .entry))) ends ⌝ }
+    pub(crate) fn end(&mut self) -> Result<(), Reason>
+        ensures answer { λ r. ⌜ ((c : Counts) → refused-by r ≡ broken c (draft-of (now (self .entry))) ends) ⌝ }
         ensures after { λ r. ⌜ draft-of (now (self .exit)) ≡ unless (refused-by r) (draft-of (now (self .entry))) (extended (draft-of (now (self .entry))) ends) ⌝ }
     {
         let Some(command) = self.current else {
