@@ -1,8 +1,10 @@
 // What a line is answered.
+ghost use Rattle.kiosk.specs.Answers.{answer-words};
 use model::fault::Fault;
 use scheme::scheme::Scheme;
 use std::fmt;
-use words::fault::fault_words;
+use words::InWords;
+use words::fault::FaultInWords;
 use words::listing::Listing;
 use words::listing::ListingDisplay;
 
@@ -18,31 +20,20 @@ pub enum Answer {
 
 // Without the last line break. What follows ` -- ` is for people.
 pub impl fmt::Display for Answer as AnswerDisplay {
+    ghost shown = { answer-words };
+
     fn fmt<W: fmt::Write>(&self, f: &mut fmt::Formatter<W>) -> fmt::Result {
         match self {
-            Answer::Accepted(count) => write_accepted(f, *count),
-            Answer::Refused(fault) => write_fault(f, fault),
+            Answer::Accepted(count) => write!(f, "ok -- the scheme is accepted; commands: {count}"),
+            Answer::Refused(fault) => {
+                let fault = InWords(*fault);
+                write!(f, "{fault}")
+            }
             Answer::List(scheme) => write_list(f, scheme),
             Answer::NoScheme => write!(f, "error no scheme"),
             Answer::BadLine => write!(f, "error bad line"),
         }
     }
-}
-
-fn write_accepted<W: fmt::Write>(f: &mut fmt::Formatter<W>, count: usize) -> fmt::Result {
-    match count {
-        0 => write!(f, "ok -- the scheme is accepted: no commands"),
-        1 => write!(f, "ok -- the scheme is accepted: 1 command"),
-        _ => write!(f, "ok -- the scheme is accepted: {count} commands"),
-    }
-}
-
-fn write_fault<W: fmt::Write>(f: &mut fmt::Formatter<W>, fault: &Fault) -> fmt::Result {
-    let layer = fault.layer.number();
-    let number = fault.reason.number();
-    let place = fault.place;
-    let words = fault_words(fault.reason);
-    write!(f, "fault {layer} {number} {place} -- {words}")
 }
 
 fn write_list<W: fmt::Write>(f: &mut fmt::Formatter<W>, scheme: &Scheme) -> fmt::Result {

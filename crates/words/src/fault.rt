@@ -1,12 +1,27 @@
-// Why a call is refused, as a sentence.
-ghost use mathlib.Core.Bool.{true};
+// Why a call is refused: layer, number and place, and the rule as a sentence.
 ghost use mathlib.Core.Path.{_≡_};
-ghost use Rattle.words.specs.Sentences.{is-sentence};
+ghost use Rattle.std.specs.declared.option.Option.the-variants.{Some};
+ghost use Rattle.words.specs.Sentences.{fault-words, reason-words};
+use crate::InWords;
+use model::fault::Fault;
 use model::fault::Reason;
+use std::fmt;
 
-// The rule that was broken. An answer is one line, so a sentence has no line break.
-pub fn fault_words(reason: Reason) -> &'static str
-    ensures { λ r. ⌜ is-sentence (now r) ≡ true ⌝ }
+pub impl fmt::Display for InWords<Fault> as FaultInWords {
+    ghost shown = { λ x. Some (fault-words (x .0)) };
+
+    fn fmt<W: fmt::Write>(&self, f: &mut fmt::Formatter<W>) -> fmt::Result {
+        let layer = self.0.layer.number();
+        let number = self.0.reason.number();
+        let place = self.0.place;
+        let words = rule_words(self.0.reason);
+        write!(f, "fault {layer} {number} {place} -- {words}")
+    }
+}
+
+// The rule that was broken.
+pub fn rule_words(reason: Reason) -> &'static str
+    ensures { λ r. ⌜ now r ≡ reason-words reason ⌝ }
 {
     match reason {
         Reason::TapeTooLong => "the tape is longer than 65535 bytes",
