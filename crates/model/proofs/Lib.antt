@@ -1,2 +1,3 @@
+pub mod Cases
 pub mod Finite
 pub mod Labels16

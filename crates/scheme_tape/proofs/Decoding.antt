@@ -7,10 +7,11 @@ use native.Mathlib.Omega.{arith}
 use lib.Dec.{eqb, leb}
 use lib.ListN.{length, take, drop, take-append-drop}
 use Rattle.std.proofs.shelf.Lists.{length-take-le, length-append}
-use Rattle.std.proofs.shelf.Tests.{le-leb, leb-true}
+use Rattle.std.proofs.shelf.Tests.{le-leb, leb-true, false≢true}
 use Rattle.std.specs.Options.{isSome}
 use Rattle.std.specs.declared.option.Option.{Option}
 use Rattle.std.specs.declared.option.Option.the-variants.{Some, None}
+use Rattle.model.proofs.Cases.{none-some, same-some}
 use Rattle.scheme.specs.declared.step.Step.the-variants.{Enter, Delete, Set, Create, Destroy}
 use Rattle.scheme.specs.declared.test.Test.the-variants.{Holds, Is, IsNot, Covers}
 use Rattle.tapes.specs.declared.order.Order.{Order}
@@ -83,28 +84,19 @@ listed (steps (Create i)) after = ap (λ b. cond b (Some (instruction-case (step
 listed (steps (Destroy i)) after = ap (λ b. cond b (Some (instruction-case (steps (Destroy i)))) None) (enough 1 (i ∷ []) after refl)
 listed ends after = ap (λ b. cond b (Some (instruction-case ends)) None) (enough 0 [] after refl)
 
-from-some : {X : Type 0} (x y : X) → Some x ≡ Some y → x ≡ y
-from-some x y h = cc
-
-none-some : {X : Type 0} (x : X) → None ≡ Some x → ⊥
-none-some x h = let z : _≡_ {A = ℕ} 0 1 = cc in omega arith
-
-false-true : false ≡ true → ⊥
-false-true h = let z : _≡_ {A = ℕ} 0 1 = cc in omega arith
-
 -- what an order says is written as the order is
 pub said-code : (o : Order) (i : Instruction) → said o ≡ Some i → code i ≡ spelt (case-of o)
-said-code (order.Begin x) i h = sym (ap code (from-some _ i h))
-said-code (order.Holds x) i h = sym (ap code (from-some _ i h))
-said-code (order.Is x) i h = sym (ap code (from-some _ i h))
-said-code (order.IsNot x) i h = sym (ap code (from-some _ i h))
-said-code (order.Covers x) i h = sym (ap code (from-some _ i h))
-said-code (order.Enter x) i h = sym (ap code (from-some _ i h))
-said-code (order.Delete x) i h = sym (ap code (from-some _ i h))
-said-code (order.Set x) i h = sym (ap code (from-some _ i h))
-said-code (order.Create x) i h = sym (ap code (from-some _ i h))
-said-code (order.Destroy x) i h = sym (ap code (from-some _ i h))
-said-code order.End i h = sym (ap code (from-some _ i h))
+said-code (order.Begin x) i h = sym (ap code (same-some _ i h))
+said-code (order.Holds x) i h = sym (ap code (same-some _ i h))
+said-code (order.Is x) i h = sym (ap code (same-some _ i h))
+said-code (order.IsNot x) i h = sym (ap code (same-some _ i h))
+said-code (order.Covers x) i h = sym (ap code (same-some _ i h))
+said-code (order.Enter x) i h = sym (ap code (same-some _ i h))
+said-code (order.Delete x) i h = sym (ap code (same-some _ i h))
+said-code (order.Set x) i h = sym (ap code (same-some _ i h))
+said-code (order.Create x) i h = sym (ap code (same-some _ i h))
+said-code (order.Destroy x) i h = sym (ap code (same-some _ i h))
+said-code order.End i h = sym (ap code (same-some _ i h))
 said-code (order.Card x) i h = absurd (none-some i h)
 said-code (order.Thing x) i h = absurd (none-some i h)
 said-code (order.Right x) i h = absurd (none-some i h)
@@ -125,9 +117,9 @@ says (order.Set x) h = (_, refl)
 says (order.Create x) h = (_, refl)
 says (order.Destroy x) h = (_, refl)
 says order.End h = (_, refl)
-says (order.Card x) h = absurd (false-true h)
-says (order.Thing x) h = absurd (false-true h)
-says (order.Right x) h = absurd (false-true h)
-says (order.Stamp x) h = absurd (false-true h)
-says (order.Allow x) h = absurd (false-true h)
-says (order.Ban x) h = absurd (false-true h)
+says (order.Card x) h = absurd (false≢true h)
+says (order.Thing x) h = absurd (false≢true h)
+says (order.Right x) h = absurd (false≢true h)
+says (order.Stamp x) h = absurd (false≢true h)
+says (order.Allow x) h = absurd (false≢true h)
+says (order.Ban x) h = absurd (false≢true h)

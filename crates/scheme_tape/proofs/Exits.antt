@@ -13,6 +13,7 @@ use Rattle.std.specs.declared.option.Option.{Option}
 use Rattle.std.specs.declared.option.Option.the-variants.{Some, None}
 use Rattle.model.specs.declared.counts.Counts.{Counts}
 use Rattle.model.specs.Answers.{Answer, accepted, refused}
+use Rattle.model.proofs.Cases.{accepted-refused, same-value, same-layer, same-number, same-place}
 use Rattle.scheme.specs.Commands.{Command}
 use Rattle.tapes.specs.declared.order.Order.{Order}
 use Rattle.tapes.specs.declared.tape.Tape.the-variants.{Scheme}
@@ -25,25 +26,9 @@ use Rattle.scheme_tape.specs.Said.{said, broken-order, taken}
 use Rattle.scheme_tape.proofs.Loop.{SoFar, stop-no-order, stop-broken, stop-cut-short, whole}
 use Rattle.scheme_tape.proofs.Shaping.{whole-encodes}
 
--- the parts of equal answers
-same-layer : {X : Type 0} (l n p l′ n′ p′ : ℕ) → _≡_ {A = Answer X} (refused l n p) (refused l′ n′ p′) → l ≡ l′
-same-layer l n p l′ n′ p′ h = cc
-
-same-number : {X : Type 0} (l n p l′ n′ p′ : ℕ) → _≡_ {A = Answer X} (refused l n p) (refused l′ n′ p′) → n ≡ n′
-same-number l n p l′ n′ p′ h = cc
-
-same-place : {X : Type 0} (l n p l′ n′ p′ : ℕ) → _≡_ {A = Answer X} (refused l n p) (refused l′ n′ p′) → p ≡ p′
-same-place l n p l′ n′ p′ h = cc
-
-same-value : {X : Type 0} (x y : X) → _≡_ {A = Answer X} (accepted x) (accepted y) → x ≡ y
-same-value x y h = cc
-
-apart : {X : Type 0} (x : X) (l n p : ℕ) → _≡_ {A = Answer X} (accepted x) (refused l n p) → ⊥
-apart x l n p h = let z : _≡_ {A = ℕ} 0 1 = cc in omega arith
-
 module _ (c : Counts) (tape : List ℕ) where
   too-long-by : (b : Bool) → leb (length tape) 65535 ≡ b → (l n p : ℕ) → _≡_ {A = Answer ℕ} (refused l n p) (cond b (accepted (length tape)) (refused 1 1 65535)) → SchemeRead c tape (refused l n p)
-  too-long-by true is l n p h = absurd (apart (length tape) l n p (sym h))
+  too-long-by true is l n p h = absurd (accepted-refused (length tape) l n p (sym h))
   too-long-by false is l n p h =
       (same-layer l n p 1 1 65535 h, inl (leb-false _ _ is, same-number l n p 1 1 65535 h, same-place l n p 1 1 65535 h))
 
@@ -56,7 +41,7 @@ module _ (c : Counts) (tape : List ℕ) where
 
   short-by : (b : Bool) → leb (length tape) 65535 ≡ b → (end : ℕ) → accepted end ≡ cond b (accepted (length tape)) (refused 1 1 65535) → Short end
   short-by true is end h = record { whole-length = same-value end (length tape) h; short = leb-true _ _ is }
-  short-by false is end h = absurd (apart end 1 1 65535 h)
+  short-by false is end h = absurd (accepted-refused end 1 1 65535 h)
 
   pub short-enough : (end : ℕ) → accepted end ≡ measured Scheme tape → Short end
   short-enough end h = short-by (leb (length tape) 65535) refl end h
@@ -72,7 +57,7 @@ module _ (c : Counts) (tape : List ℕ) where
     no-order-by : at < length tape → (o : Option Case) → first-order Scheme (drop at tape) ≡ o → (l n p : ℕ) → refused l n p ≡ handed-on Scheme at o → SchemeRead c tape (refused l n p)
     no-order-by inside None is l n p h =
         stopped-here l n p 2 (same-layer l n p 1 2 at h) (same-number l n p 1 2 at h) (same-place l n p 1 2 at h) (stop-no-order c tape at d so-far inside is)
-    no-order-by inside (Some k) is l n p h = absurd (apart _ l n p (sym h))
+    no-order-by inside (Some k) is l n p h = absurd (accepted-refused _ l n p (sym h))
 
     pub refused-no-order : at < length tape → (l n p : ℕ) → refused l n p ≡ handed-on Scheme at (first-order Scheme (drop at tape)) → SchemeRead c tape (refused l n p)
     refused-no-order inside l n p h = no-order-by inside (first-order Scheme (drop at tape)) refl l n p h
@@ -84,7 +69,7 @@ module _ (c : Counts) (tape : List ℕ) where
       pub bytes : size ≡ size-of (case-of o)
 
     found-by : (k : Option Case) → first-order Scheme (drop at tape) ≡ k → (o : Order) (offset size : ℕ) → accepted (record { order = case-of o; offset = offset; size = size }) ≡ handed-on Scheme at k → Found o offset size
-    found-by None is o offset size h = absurd (apart _ 1 2 at h)
+    found-by None is o offset size h = absurd (accepted-refused _ 1 2 at h)
     found-by (Some k) is o offset size h =
         let same : record { order = case-of o; offset = offset; size = size } ≡ record { order = k; offset = at; size = size-of k } = same-value _ _ h in
         let order-same : case-of o ≡ k = ap (λ (x : At). x .order) same in
@@ -98,7 +83,7 @@ module _ (c : Counts) (tape : List ℕ) where
     found o offset size h = found-by (first-order Scheme (drop at tape)) refl o offset size h
 
     broken-by : (o : Order) (offset size : ℕ) → Found o offset size → (b : Option ℕ) → broken-order c d (said o) ≡ b → (l n p : ℕ) → refused l n p ≡ taken offset b → SchemeRead c tape (refused l n p)
-    broken-by o offset size f None is l n p h = absurd (apart _ l n p (sym h))
+    broken-by o offset size f None is l n p h = absurd (accepted-refused _ l n p (sym h))
     broken-by o offset size f (Some m) is l n p h =
         stopped-here l n p m (same-layer l n p 1 m offset h) (same-number l n p 1 m offset h) (same-place l n p 1 m offset h ∙ f .place) (stop-broken c tape at d so-far o (f .order) m is)
 
@@ -107,7 +92,7 @@ module _ (c : Counts) (tape : List ℕ) where
 
   pub not-broken : (offset : ℕ) (b : Option ℕ) → accepted tt ≡ taken offset b → b ≡ None
   not-broken offset None h = refl
-  not-broken offset (Some n) h = absurd (apart tt 1 n offset h)
+  not-broken offset (Some n) h = absurd (accepted-refused tt 1 n offset h)
 
   -- the end of the tape
   pub ended : (at : ℕ) (finished : List Command) (current : Option Command) → SoFar c tape at (record { finished = finished; current = current }) → at ≡ length tape → length tape ≤ 65535 → (end : ℕ) → end ≡ at → SchemeRead c tape (finish-at end finished current)

@@ -13,6 +13,7 @@ use Rattle.std.specs.declared.option.Option.{Option}
 use Rattle.std.specs.declared.option.Option.the-variants.{Some, None}
 use Rattle.model.specs.declared.counts.Counts.{Counts}
 use Rattle.model.specs.Answers.{lowest}
+use Rattle.model.proofs.Cases.{none-some}
 use Rattle.scheme.specs.declared.step.Step.{Step}
 use Rattle.scheme.specs.declared.test.Test.{Test}
 use Rattle.scheme.specs.Commands.{Command, test-fits, step-fits, begin-in-range, begun, with-test, with-step, begin-rules, test-rules, step-rules}
@@ -36,7 +37,7 @@ to-unbroken [] h = tt
 to-unbroken (rule ∷ rules) h = by (rule .1) refl h (to-unbroken rules)
   where
     by : (b : Bool) → rule .1 ≡ b → cond b (Some (rule .0)) (lowest rules) ≡ None → (lowest rules ≡ None → Unbroken rules) → Unbroken (rule ∷ rules)
-    by true is bad on = absurd (let z : _≡_ {A = ℕ} 0 1 = cc in omega arith)
+    by true is bad on = absurd (none-some (rule .0) (sym bad))
     by false is rest on = (is, on rest)
 
 pub from-unbroken : (rules : List (ℕ × Bool)) → Unbroken rules → lowest rules ≡ None
@@ -228,15 +229,12 @@ module _ (c : Counts) (finished : List Command) where
             ∙ sym (append-assoc (encode finished) (start ++ (old ++ done-steps)) (code ends)),
       )
 
-some-none : (n : ℕ) → Some n ≡ None → ⊥
-some-none n h = let z : _≡_ {A = ℕ} 0 1 = cc in omega arith
-
 grows : (c : Counts) (finished : List Command) (current : Option Command) (i : Instruction) → Sound c (record { finished = finished; current = current }) → broken c (record { finished = finished; current = current }) i ≡ None → Grows c (record { finished = finished; current = current }) i
 grows c finished None (begins p q) sound ok = grows-begin c finished p q sound ok
-grows c finished None (tests t) sound ok = absurd (some-none 3 ok)
-grows c finished None (steps s) sound ok = absurd (some-none 3 ok)
-grows c finished None ends sound ok = absurd (some-none 3 ok)
-grows c finished (Some m) (begins p q) sound ok = absurd (some-none 3 ok)
+grows c finished None (tests t) sound ok = absurd (none-some 3 (sym ok))
+grows c finished None (steps s) sound ok = absurd (none-some 3 (sym ok))
+grows c finished None ends sound ok = absurd (none-some 3 (sym ok))
+grows c finished (Some m) (begins p q) sound ok = absurd (none-some 3 (sym ok))
 grows c finished (Some m) (tests t) sound ok = grows-test c finished m t sound ok
 grows c finished (Some m) (steps s) sound ok = grows-step c finished m s sound ok
 grows c finished (Some m) ends sound ok = grows-end c finished m sound

@@ -13,6 +13,7 @@ use Rattle.std.specs.Options.{mapped, isSome}
 use Rattle.std.specs.declared.option.Option.{Option}
 use Rattle.std.specs.declared.option.Option.the-variants.{Some, None}
 use Rattle.model.specs.Answers.{Answer, accepted}
+use Rattle.model.proofs.Cases.{none-some}
 use Rattle.tapes.specs.declared.table.OrderRow.{OrderRow}
 use Rattle.tapes.specs.declared.tape.Tape.{Tape}
 use Rattle.tapes.specs.Orders.{Case, spelt, decoded, decoded-by}
@@ -62,14 +63,14 @@ module _ (tape : Tape) (byte : ℕ) (rest : List ℕ) (row : OrderRow) (on : Som
 
 -- what `handed-on` says, from the order that was found with its size
 pub hands : (tape : Tape) (offset : ℕ) (o : Option Case) (order : Case) (size : ℕ) → Some (order, size) ≡ mapped with-size o → accepted (record { order = order; offset = offset; size = size }) ≡ handed-on tape offset o
-hands tape offset None order size h = absurd (let z : _≡_ {A = ℕ} 0 1 = cc in omega arith)
+hands tape offset None order size h = absurd (none-some (order, size) (sym h))
 hands tape offset (Some k) order size h =
     let same : (order, size) ≡ with-size k = cc in
     ap (λ p. accepted (record { order = p .0; offset = offset; size = p .1 })) same
 
 pub hands-none : (tape : Tape) (offset : ℕ) (o : Option Case) → None ≡ mapped with-size o → handed-on tape offset None ≡ handed-on tape offset o
 hands-none tape offset None h = refl
-hands-none tape offset (Some k) h = absurd (let z : _≡_ {A = ℕ} 0 1 = cc in omega arith)
+hands-none tape offset (Some k) h = absurd (none-some (with-size k) h)
 
 -- an order that was found stands at the front of the bytes
 module _ (byte : ℕ) (rest : List ℕ) (k : Case) where
@@ -80,27 +81,27 @@ module _ (byte : ℕ) (rest : List ℕ) (k : Case) where
       let past : drop (1 + length (take n rest)) (byte ∷ rest) ≡ drop n rest = rw (one-add, fits) in
       let whole : byte ∷ rest ≡ byte ∷ (take n rest ++ drop n rest) = ap (λ l. byte ∷ l) (sym (take-append-drop n rest)) in
       subst (λ (o : Case). byte ∷ rest ≡ spelt o ++ drop (size-of o) (byte ∷ rest)) is (whole ∙ ap (λ l. byte ∷ (take n rest ++ l)) (sym past))
-  split-by n false enough h = absurd (let z : _≡_ {A = ℕ} 0 1 = cc in omega arith)
+  split-by n false enough h = absurd (none-some k h)
 
   split-row : (o : Option OrderRow) → decoded-by byte rest o ≡ Some k → byte ∷ rest ≡ spelt k ++ drop (size-of k) (byte ∷ rest)
-  split-row None h = absurd (let z : _≡_ {A = ℕ} 0 1 = cc in omega arith)
+  split-row None h = absurd (none-some k h)
   split-row (Some row) h = split-by (row .operands) (leb (row .operands) (length rest)) refl h
 
   row-found : (o : Option OrderRow) → decoded-by byte rest o ≡ Some k → (isSome o ≡ true) × (k .number ≡ byte)
-  row-found None h = absurd (let z : _≡_ {A = ℕ} 0 1 = cc in omega arith)
+  row-found None h = absurd (none-some k h)
   row-found (Some row) h = (refl, number-by (leb (row .operands) (length rest)) h)
     where
       number-by : (b : Bool) → cond b (Some (record { number = byte; values = take (row .operands) rest })) None ≡ Some k → k .number ≡ byte
       number-by true e = let is : record { number = byte; values = take (row .operands) rest } ≡ k = cc in sym (ap (λ (o : Case). o .number) is)
-      number-by false e = absurd (let z : _≡_ {A = ℕ} 0 1 = cc in omega arith)
+      number-by false e = absurd (none-some k e)
 
 pub order-splits : (tape : Tape) (bytes : List ℕ) (k : Case) → first-order tape bytes ≡ Some k → bytes ≡ spelt k ++ drop (size-of k) bytes
-order-splits tape [] k h = absurd (let z : _≡_ {A = ℕ} 0 1 = cc in omega arith)
+order-splits tape [] k h = absurd (none-some k h)
 order-splits tape (byte ∷ rest) k h = split-row byte rest k (row-on byte tape) h
 
 -- and its byte is one of this tape
 pub order-on : (tape : Tape) (bytes : List ℕ) (k : Case) → first-order tape bytes ≡ Some k → isSome (row-on (k .number) tape) ≡ true
-order-on tape [] k h = absurd (let z : _≡_ {A = ℕ} 0 1 = cc in omega arith)
+order-on tape [] k h = absurd (none-some k h)
 order-on tape (byte ∷ rest) k h =
     let found = row-found byte rest k (row-on byte tape) h in
     ap (λ b. isSome (row-on b tape)) (found .1) ∙ found .0

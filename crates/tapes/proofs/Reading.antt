@@ -10,10 +10,11 @@ use Rattle.std.proofs.shelf.Tests.{both-ways}
 use Rattle.std.specs.Joined.{joined}
 use Rattle.std.specs.declared.option.Option.{Option}
 use Rattle.std.specs.declared.option.Option.the-variants.{Some, None}
+use Rattle.model.proofs.Cases.{none-some}
 use Rattle.tapes.specs.Grammars.{Grammar, Runs, done, then, codes, Fails, no-order, breaks-rule, cut-short, Stopped, Whole}
 
 pub some-none : {X : Type 0} (x : X) (o : Option X) → o ≡ Some x → o ≡ None → ⊥
-some-none x o some none = let z : _≡_ {A = ℕ} 0 1 = cc in omega arith
+some-none x o some none = none-some x (sym none ∙ some)
 
 module _ {I D : Type 0} (g : Grammar I D) where
   -- one order more at the end
