@@ -1,5 +1,7 @@
 // The kiosk's desk: it reads a script line by line, from the file that is named or from standard input, and answers
 // each line.
+#![tactic(auto)]
+
 mod answer;
 mod session;
 mod setup;

@@ -1,5 +1,5 @@
 -- A rule over the numbers below a bound, proved by one test that the checker computes.
-use Rattle.std.proofs.Common.{◌≡◌, ℕ, zero, suc, ◌<◌, Bool, true, false, ◌&&◌, sym, subst, ⊎_elim, not-suc-le-zero, arith}
+use Rattle.std.proofs.Common.{◌≡◌, ℕ, zero, suc, ◌<◌, Bool, true, ◌&&◌, sym, subst, ⊎_elim, not-suc-le-zero, arith}
 use Rattle.std.proofs.lemmas.Bool.{and_parts, cases_eq}
 
 abbrev pub all_below : (ℕ → Bool) → ℕ → Bool

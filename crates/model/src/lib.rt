@@ -1,4 +1,6 @@
 // The vocabulary of the rights register: what an entry, a right, a scale and a refusal are. Nothing here allocates.
+#![tactic(auto)]
+
 pub mod bounded;
 pub mod counts;
 pub mod fault;

@@ -1,5 +1,7 @@
 // Shows the parts that a register is put together from: both cell stores, used by the same code, and the kiosk's pile
 // of filters, put one question after the other.
+#![tactic(auto)]
+
 mod questions;
 mod writes;
 

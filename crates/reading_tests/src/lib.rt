@@ -1,4 +1,6 @@
 // Tests of the vocabulary and of the scheme reader: examples, refusals at their places, and boundaries.
+#![tactic(auto)]
+
 #[cfg(test)]
 mod refusals;
 #[cfg(test)]

@@ -1,6 +1,6 @@
 -- Four filters that stand one on the other ask what each attribute asks, and with empty masks they ask nothing.
 use Rattle.std.proofs.Common.{◌≡◌, ℕ, ◌%◌, ◌^◌, Bool, true, false, ◌&&◌, eqb, refl, ap, ◌∙◌}
-use mathlib.Core.Bool.{and_comm, and_true}
+use mathlib.Core.Bool.{and_comm, and-true}
 use native.Mathlib.Nat.{zero-div}
 use Rattle.model.specs.Masks.{has}
 use Rattle.rulings.specs.declared.filter.AttributeFilter.{AttributeFilter}

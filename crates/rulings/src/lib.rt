@@ -1,4 +1,6 @@
 // Rulings: what has the last word on an access question. Nothing here allocates.
+#![tactic(auto)]
+
 pub mod filter;
 pub mod matrix;
 pub mod pile;

@@ -1,4 +1,6 @@
 // Tests of the rulings: the matrix alone, one filter, piles of filters.
+#![tactic(auto)]
+
 #[cfg(test)]
 mod filters;
 #[cfg(test)]

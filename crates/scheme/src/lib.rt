@@ -1,4 +1,6 @@
 // Commands and the schemes that they make up. A value of these types keeps the rules on parameters; nothing here allocates.
+#![tactic(auto)]
+
 pub mod command;
 pub mod placing;
 pub mod scheme;

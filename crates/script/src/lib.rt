@@ -1,4 +1,6 @@
 // Reads one line of a script.
+#![tactic(auto)]
+
 mod hex;
 mod keyword;
 mod line;

@@ -1,4 +1,6 @@
 // What lines of a script say, by example.
+#![tactic(auto)]
+
 #[cfg(test)]
 mod tests {
     use script::{Line, read_hex, read_line};

@@ -1,4 +1,6 @@
 // Where a register's cells lie: what a cell store is, and two of them.
+#![tactic(auto)]
+
 pub mod board;
 pub mod list;
 pub mod record;

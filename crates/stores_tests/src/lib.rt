@@ -1,4 +1,6 @@
 // Tests of the cell stores at their edges.
+#![tactic(auto)]
+
 #[cfg(test)]
 mod boards;
 #[cfg(test)]

@@ -1,4 +1,6 @@
 // Says things in words for people: why a call is refused, and what a command tests and does.
+#![tactic(auto)]
+
 pub mod fault;
 pub mod kind;
 pub mod listing;

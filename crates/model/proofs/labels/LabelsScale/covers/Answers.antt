@@ -1,4 +1,4 @@
-use Rattle.std.proofs.Common.{◌≡◌, true, ◌&&◌, ltb, sym, ◌∙◌, arith}
+use Rattle.std.proofs.Common.{◌≡◌, true, ltb, arith}
 use Rattle.std.proofs.lemmas.Bool.{lt-ltb}
 use Rattle.model.proofs.Labels16.{labels_by_bits}
 use Rattle.model.proofs.labels.LabelsScale.covers.Goals as goal
