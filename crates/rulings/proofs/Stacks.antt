@@ -18,7 +18,7 @@ unfolding has
 none_has right = ap (λ n. eqb (n % 2) 1) (zero-div (2 ^ right))
 
 pub nothing_asked : (covers : ℕ → ℕ → ℕ → Bool) (q : Question) → pile_says covers no_masks q ≡ held q
-nothing_asked covers q = rw (none_has q.right) (and_true (held q))
+nothing_asked covers q = rw (none_has q.right) (and-true (held q))
 
 regrouped : (h a b c d : Bool) → (h && d && c && b && a) ≡ (h && (a && (b && (c && d))))
 regrouped false a b c d = refl

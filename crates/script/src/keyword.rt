@@ -14,13 +14,13 @@ pub(crate) enum Keyword {
 pub(crate) fn find_keyword(word: &[u8]) -> Option<Keyword>
     ensures { Finds (λ k. word.now ≡ spelling k) result }
 {
-    if word == b"scheme" {
+    if word == b"scheme".as_slice() {
         Some(Keyword::Scheme)
-    } else if word == b"list" {
+    } else if word == b"list".as_slice() {
         Some(Keyword::List)
-    } else if word == b"store" {
+    } else if word == b"store".as_slice() {
         Some(Keyword::Store)
-    } else if word == b"filter" {
+    } else if word == b"filter".as_slice() {
         Some(Keyword::Filter)
     } else {
         None

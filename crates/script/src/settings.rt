@@ -13,7 +13,7 @@ pub(crate) fn is_board(rest: &[u8]) -> bool
     ensures { Decides result (Alone rest.now (codes "board")) }
 {
     match lone_word(rest) {
-        Some(word) => word == b"board",
+        Some(word) => word == b"board".as_slice(),
         None => false,
     }
 }
@@ -23,7 +23,7 @@ pub(crate) fn list_size(rest: &[u8]) -> Option<u32>
     ensures { Finds (Sized rest.now) result }
 {
     let (word, more) = first_word(rest)?;
-    if word == b"list" {
+    if word == b"list".as_slice() {
         read_number(lone_word(more)?, 999_999)
     } else {
         None
