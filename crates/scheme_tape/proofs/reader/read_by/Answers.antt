@@ -8,40 +8,40 @@ use Rattle.scheme_tape.proofs.Exits.{too_long, Short, short_enough, within, refu
 use Rattle.scheme_tape.proofs.Loop.{SoFar, at_start, one_more}
 use Rattle.scheme_tape.proofs.reader.read_by.Goals as goal
 
-pub returns-in-err-end : goal.returns-in-err-end
-returns-in-err-end c =
-    let p = err_from_is_err_and c.from-residual.result c.from-residual.ensures.1 in
-    rw (p.1, p.2) (too_long c.args.counts.now c.args.tape.now _ _ _ c.in-err-end.ensures)
+pub returns-in_err-end : goal.returns-in_err-end
+returns-in_err-end c =
+    let p = err_from_is_err_and c.from_residual.result c.from_residual.ensures.1 in
+    rw (p.1, p.2) (too_long c.args.counts.now c.args.tape.now _ _ _ c.in_err-end.ensures)
 
 pub loop-at-init : goal.loop-at-init
 loop-at-init c =
     (subst (SoFar c.args.counts.now c.args.tape.now 0) (sym c.empty_draft.ensures) (at_start c.args.counts.now c.args.tape.now), omega arith)
 
-pub returns-in-err-placed : goal.returns-in-err-placed
-returns-in-err-placed c =
-    let p = err_from_is_err_and c.from-residual-in-err-placed.result c.from-residual-in-err-placed.ensures.1 in
-    let fits = short_enough c.args.counts.now c.args.tape.now _ c.in-ok-end.ensures in
+pub returns-in_err-placed : goal.returns-in_err-placed
+returns-in_err-placed c =
+    let p = err_from_is_err_and c.from_residual-in_err-placed.result c.from_residual-in_err-placed.ensures.1 in
+    let fits = short_enough c.args.counts.now c.args.tape.now _ c.in_ok-end.ensures in
     let inside : c.loop-at.at < length c.args.tape.now = omega (arith, fits.whole_length) in
-    rw (p.1, p.2) (refused_no_order c.args.counts.now c.args.tape.now c.loop-at.at (draft_of c.loop-at.draft) c.loop-at.invariant.0 fits.short inside _ _ _ c.in-err-placed.ensures)
+    rw (p.1, p.2) (refused_no_order c.args.counts.now c.args.tape.now c.loop-at.at (draft_of c.loop-at.draft) c.loop-at.invariant.0 fits.short inside _ _ _ c.in_err-placed.ensures)
 
-pub returns-in-err-take-in : goal.returns-in-err-take-in
-returns-in-err-take-in c =
-    let p = err_from_is_err_and c.from-residual-in-err-take-in.result c.from-residual-in-err-take-in.ensures.1 in
-    let fits = short_enough c.args.counts.now c.args.tape.now _ c.in-ok-end.ensures in
-    let placed = c.in-ok-placed.placed in
-    let here = found c.args.counts.now c.args.tape.now c.loop-at.at (draft_of c.loop-at.draft) c.loop-at.invariant.0 fits.short placed.order placed.offset placed.size c.in-ok-placed.ensures in
-    rw (p.1, p.2) (refused_order c.args.counts.now c.args.tape.now c.loop-at.at (draft_of c.loop-at.draft) c.loop-at.invariant.0 fits.short placed.order placed.offset placed.size here _ _ _ c.in-err-take-in.ensures.answer)
+pub returns-in_err-take_in : goal.returns-in_err-take_in
+returns-in_err-take_in c =
+    let p = err_from_is_err_and c.from_residual-in_err-take_in.result c.from_residual-in_err-take_in.ensures.1 in
+    let fits = short_enough c.args.counts.now c.args.tape.now _ c.in_ok-end.ensures in
+    let placed = c.in_ok-placed.placed in
+    let here = found c.args.counts.now c.args.tape.now c.loop-at.at (draft_of c.loop-at.draft) c.loop-at.invariant.0 fits.short placed.order placed.offset placed.size c.in_ok-placed.ensures in
+    rw (p.1, p.2) (refused_order c.args.counts.now c.args.tape.now c.loop-at.at (draft_of c.loop-at.draft) c.loop-at.invariant.0 fits.short placed.order placed.offset placed.size here _ _ _ c.in_err-take_in.ensures.answer)
 
 -- the order at hand was taken in: the tape is read past it
-read_on : (c : goal.In-ok-take-in) → SoFar c.args.counts.now c.args.tape.now (c.loop-at.at + c.in-ok-placed.placed.size) (draft_of c.take-in.new.self)
+read_on : (c : goal.In_ok-take_in) → SoFar c.args.counts.now c.args.tape.now (c.loop-at.at + c.in_ok-placed.placed.size) (draft_of c.take_in.new.self)
 read_on c =
-    let fits = short_enough c.args.counts.now c.args.tape.now _ c.in-ok-end.ensures in
-    let placed = c.in-ok-placed.placed in
+    let fits = short_enough c.args.counts.now c.args.tape.now _ c.in_ok-end.ensures in
+    let placed = c.in_ok-placed.placed in
     let d = draft_of c.loop-at.draft in
-    let here = found c.args.counts.now c.args.tape.now c.loop-at.at d c.loop-at.invariant.0 fits.short placed.order placed.offset placed.size c.in-ok-placed.ensures in
-    let ok : broken_order c.args.counts.now d (said placed.order) ≡ None = not_broken c.args.counts.now c.args.tape.now placed.offset _ c.in-ok-take-in.ensures.answer in
-    let after : draft_of c.take-in.new.self ≡ extended_order d (said placed.order) = c.take-in.ensures.after ∙ ap (λ b. unless b d (extended_order d (said placed.order))) ok in
-    one_more c.args.counts.now c.args.tape.now c.loop-at.at d c.loop-at.invariant.0 placed.order here.order placed.size (draft_of c.take-in.new.self) here.bytes ok after
+    let here = found c.args.counts.now c.args.tape.now c.loop-at.at d c.loop-at.invariant.0 fits.short placed.order placed.offset placed.size c.in_ok-placed.ensures in
+    let ok : broken_order c.args.counts.now d (said placed.order) ≡ None = not_broken c.args.counts.now c.args.tape.now placed.offset _ c.in_ok-take_in.ensures.answer in
+    let after : draft_of c.take_in.new.self ≡ extended_order d (said placed.order) = c.take_in.ensures.after ∙ ap (λ b. unless b d (extended_order d (said placed.order))) ok in
+    one_more c.args.counts.now c.args.tape.now c.loop-at.at d c.loop-at.invariant.0 placed.order here.order placed.size (draft_of c.take_in.new.self) here.bytes ok after
 
 -- that is still on the tape, and at least one byte on
 record Past (at size end : ℕ) : Type 0 where
@@ -49,16 +49,16 @@ record Past (at size end : ℕ) : Type 0 where
   inside : at + size ≤ end
   short : end ≤ 65535
 
-past : (c : goal.In-ok-take-in) → Past c.loop-at.at c.in-ok-placed.placed.size c.in-ok-end.end
+past : (c : goal.In_ok-take_in) → Past c.loop-at.at c.in_ok-placed.placed.size c.in_ok-end.end
 past c =
-    let fits = short_enough c.args.counts.now c.args.tape.now _ c.in-ok-end.ensures in
-    let placed = c.in-ok-placed.placed in
-    let here = found c.args.counts.now c.args.tape.now c.loop-at.at (draft_of c.loop-at.draft) c.loop-at.invariant.0 fits.short placed.order placed.offset placed.size c.in-ok-placed.ensures in
-    let on = within c.args.counts.now c.args.tape.now (c.loop-at.at + placed.size) (draft_of c.take-in.new.self) (read_on c) fits.short in
+    let fits = short_enough c.args.counts.now c.args.tape.now _ c.in_ok-end.ensures in
+    let placed = c.in_ok-placed.placed in
+    let here = found c.args.counts.now c.args.tape.now c.loop-at.at (draft_of c.loop-at.draft) c.loop-at.invariant.0 fits.short placed.order placed.offset placed.size c.in_ok-placed.ensures in
+    let on = within c.args.counts.now c.args.tape.now (c.loop-at.at + placed.size) (draft_of c.take_in.new.self) (read_on c) fits.short in
     record { some = omega (arith, here.bytes); inside = omega (arith, on, fits.whole_length); short = omega (arith, fits.whole_length, fits.short) }
 
-pub overflow-add-at : goal.overflow-add-at
-overflow-add-at c = let p = past c in omega (arith, p.inside, p.short)
+pub overflow_add-at : goal.overflow_add-at
+overflow_add-at c = let p = past c in omega (arith, p.inside, p.short)
 
 pub loop-at-smaller : goal.loop-at-smaller
 loop-at-smaller c = let p = past c in omega (arith, p.some, p.inside)
@@ -68,7 +68,7 @@ loop-at-preserved c = (read_on c, (past c).inside)
 
 pub returns : goal.returns
 returns c =
-    let fits = short_enough c.args.counts.now c.args.tape.now _ c.in-ok-end.ensures in
+    let fits = short_enough c.args.counts.now c.args.tape.now _ c.in_ok-end.ensures in
     let d = draft_of c.loop-at.draft in
     subst (SchemeRead c.args.counts.now c.args.tape.now) (sym c.finish.ensures)
-    (ended c.args.counts.now c.args.tape.now c.loop-at.at d.finished d.current c.loop-at.invariant.0 (omega (arith, fits.whole_length, c.loop-at.invariant.1)) fits.short c.in-ok-end.end (omega (arith, c.loop-at.invariant.1)))
+    (ended c.args.counts.now c.args.tape.now c.loop-at.at d.finished d.current c.loop-at.invariant.0 (omega (arith, fits.whole_length, c.loop-at.invariant.1)) fits.short c.in_ok-end.end (omega (arith, c.loop-at.invariant.1)))

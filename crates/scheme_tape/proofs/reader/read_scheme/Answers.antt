@@ -7,7 +7,7 @@ use Rattle.scheme_tape.proofs.reader.read_scheme.Goals as goal
 
 pub returns : goal.returns
 returns g c =
-    let read = subst (λ n. SchemeRead n c.args.tape.now (answer commands_of c.read-by.result)) c.of-counts.ensures c.read-by.ensures in
+    let read = subst (λ n. SchemeRead n c.args.tape.now (answer commands_of c.read_by.result)) c.of-counts.ensures c.read_by.ensures in
     record {
       reading = read;
       exact = accepted_exactly _ _ _ read;

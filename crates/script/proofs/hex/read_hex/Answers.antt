@@ -9,28 +9,28 @@ use Rattle.script.proofs.hex.read_hex.Goals as goal
 pub loop-rest-init : goal.loop-rest-init
 loop-rest-init c =
     let text = c.args.text.now in
-    subst (λ bytes. Sofar text bytes c.past-blanks-rest.result.now) (sym c.new-bytes.ensures.items)
-    (subst (Sofar text []) (sym c.past-blanks-rest.ensures) (begun text))
+    subst (λ bytes. Sofar text bytes c.past_blanks-rest.result.now) (sym c.new-bytes.ensures.items)
+    (subst (Sofar text []) (sym c.past_blanks-rest.ensures) (begun text))
 
-pub returns-in-default : goal.returns-in-default
-returns-in-default c = record {
-  spelt = stuck _ _ _ c.loop-rest.invariant (omega (arith, false-eqb _ 0 c.loop-rest-test.ensures)) (sym c.in-default.ensures);
+pub returns-in_default : goal.returns-in_default
+returns-in_default c = record {
+  spelt = stuck _ _ _ c.loop-rest.invariant (omega (arith, false-eqb _ 0 c.loop-rest-test.ensures)) (sym c.in_default.ensures);
   one = one_spelling;
   memory = tt;
 }
 
-pub returns-in-err-push : goal.returns-in-err-push
-returns-in-err-push c = record {
-  spelt = IfOk-from_err _ _ c.from-residual.ensures.0;
+pub returns-in_err-push : goal.returns-in_err-push
+returns-in_err-push c = record {
+  spelt = IfOk-from_err _ _ c.from_residual.ensures.0;
   one = one_spelling;
-  memory = refused_since c.from-residual.result (opens _ _ _ _ _ c.loop-rest.invariant (sym c.in-Some.ensures));
+  memory = refused_since c.from_residual.result (opens _ _ _ _ _ c.loop-rest.invariant (sym c.in-Some.ensures));
 }
 
 pub loop-rest-smaller : goal.loop-rest-smaller
 loop-rest-smaller c =
     omega (
       arith,
-      ap length c.past-blanks-rest-in-loop-rest.ensures,
+      ap length c.past_blanks-rest-in-loop-rest.ensures,
       past_shorter c.in-Some.after.now,
       pair_shorter c.loop-rest.rest.now c.in-Some.value c.in-Some.after.now (sym c.in-Some.ensures),
     )
@@ -38,9 +38,9 @@ loop-rest-smaller c =
 pub loop-rest-preserved : goal.loop-rest-preserved
 loop-rest-preserved c =
     let text = c.args.text.now in
-    let pushed = chosen _ _ _ _ c.push.ensures.items (ap is_ok c.in-ok-push.was) in
-    subst (λ bytes. Sofar text bytes c.past-blanks-rest-in-loop-rest.result.now) (sym pushed)
-    (subst (Sofar text _) (sym c.past-blanks-rest-in-loop-rest.ensures)
+    let pushed = chosen _ _ _ _ c.push.ensures.items (ap is_ok c.in_ok-push.was) in
+    subst (λ bytes. Sofar text bytes c.past_blanks-rest-in-loop-rest.result.now) (sym pushed)
+    (subst (Sofar text _) (sym c.past_blanks-rest-in-loop-rest.ensures)
     (one_more _ _ _ _ _ c.loop-rest.invariant (sym c.in-Some.ensures)))
 
 pub returns : goal.returns

@@ -7,9 +7,9 @@ use Rattle.script.proofs.Refusing.{refused_weaker}
 use Rattle.script.proofs.Saying.{silent_says, begins_key, key_says, no_key_says, one_call}
 use Rattle.script.proofs.line.read_line.Goals as goal
 
-pub returns-then-is-silent : goal.returns-then-is-silent
-returns-then-is-silent c = record {
-  said = silent_says _ (ap silent (sym c.past-blanks-text.ensures) ∙ sym c.if-is-silent.ensures);
+pub returns-then-is_silent : goal.returns-then-is_silent
+returns-then-is_silent c = record {
+  said = silent_says _ (ap silent (sym c.past_blanks-text.ensures) ∙ sym c.if-is_silent.ensures);
   one = one_call;
   memory = tt;
 }
@@ -18,28 +18,28 @@ pub returns-in-Some : goal.returns-in-Some
 returns-in-Some c =
     let line = c.args.line.now in
     let key = c.in-Some.key in
-    let past = c.past-blanks-text.ensures in
-    let heard = ap silent (sym past) ∙ sym c.if-is-silent.ensures in
-    let word = ap front_word (sym past) ∙ sym c.split-word.ensures.word ∙ c.in-Some.ensures in
-    let rest = c.split-word.ensures.rest ∙ ap past_word past in
+    let past = c.past_blanks-text.ensures in
+    let heard = ap silent (sym past) ∙ sym c.if-is_silent.ensures in
+    let word = ap front_word (sym past) ∙ sym c.split_word.ensures.word ∙ c.in-Some.ensures in
+    let rest = c.split_word.ensures.rest ∙ ap past_word past in
     record {
       said =
-          IfOk-weaker c.read-call.result _ _
+          IfOk-weaker c.read_call.result _ _
           (λ l asked. key_says line key (call_of l) heard word (subst (λ t. Finds (Asks key t) (call_of l)) rest asked))
-          c.read-call.ensures.asked;
+          c.read_call.ensures.asked;
       one = one_call;
       memory =
-          refused_weaker c.read-call.result
+          refused_weaker c.read_call.result
           (λ wants. record { key = key; rest = past_word (past_blanks line); begun = begins_key line key heard word; wants = subst (Wants key) rest wants })
-          c.read-call.ensures.memory;
+          c.read_call.ensures.memory;
     }
 
 pub returns-in-None : goal.returns-in-None
 returns-in-None c =
-    let past = c.past-blanks-text.ensures in
-    let heard = ap silent (sym past) ∙ sym c.if-is-silent.ensures in
+    let past = c.past_blanks-text.ensures in
+    let heard = ap silent (sym past) ∙ sym c.if-is_silent.ensures in
     record {
-      said = no_key_says _ heard (λ key is. c.in-None.ensures key (c.split-word.ensures.word ∙ ap front_word past ∙ is));
+      said = no_key_says _ heard (λ key is. c.in-None.ensures key (c.split_word.ensures.word ∙ ap front_word past ∙ is));
       one = one_call;
       memory = tt;
     }

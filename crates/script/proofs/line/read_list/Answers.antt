@@ -3,8 +3,8 @@ use Rattle.script.proofs.Saying.{asked}
 use Rattle.std.proofs.lemmas.Bool.Decides.{not_from_Decides}
 use Rattle.script.proofs.line.read_list.Goals as goal
 
-pub returns-then-only-blanks : goal.returns-then-only-blanks
-returns-then-only-blanks c = asks_list _ (c.only-blanks.ensures.0 c.if-only-blanks.true)
+pub returns-then-only_blanks : goal.returns-then-only_blanks
+returns-then-only_blanks c = asks_list _ (c.only_blanks.ensures.0 c.if-only_blanks.true)
 
-pub returns-else-only-blanks : goal.returns-else-only-blanks
-returns-else-only-blanks c = λ call a. not_from_Decides _ c.only-blanks.ensures c.if-only-blanks.false (asked a).0
+pub returns-else-only_blanks : goal.returns-else-only_blanks
+returns-else-only_blanks c = λ call a. not_from_Decides _ c.only_blanks.ensures c.if-only_blanks.false (asked a).0

@@ -8,10 +8,10 @@ use Rattle.script.proofs.line.read_scheme.Goals as goal
 
 pub returns-in-Some : goal.returns-in-Some
 returns-in-Some c =
-    let found = subst (λ o. Finds (Spells c.args.rest.now) (option_map vec_items o)) c.in-Some.is c.in-ok-tape.ensures.spelt in
+    let found = subst (λ o. Finds (Spells c.args.rest.now) (option_map vec_items o)) c.in-Some.is c.in_ok-tape.ensures.spelt in
     record { asked = asks_scheme found; memory = tt }
 
 pub returns-in-None : goal.returns-in-None
 returns-in-None c =
-    let none = subst (λ o. Finds (Spells c.args.rest.now) (option_map vec_items o)) c.in-None.is c.in-ok-tape.ensures.spelt in
+    let none = subst (λ o. Finds (Spells c.args.rest.now) (option_map vec_items o)) c.in-None.is c.in_ok-tape.ensures.spelt in
     record { asked = λ call a. let spelt = asked a in none spelt.0 spelt.1; memory = tt }

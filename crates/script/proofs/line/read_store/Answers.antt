@@ -4,8 +4,8 @@ use Rattle.script.specs.Calls.{asks_board, asks_records}
 use Rattle.script.proofs.Saying.{asked}
 use Rattle.script.proofs.line.read_store.Goals as goal
 
-pub returns-then-is-board : goal.returns-then-is-board
-returns-then-is-board c = asks_board (c.is-board.ensures.0 c.if-is-board.true)
+pub returns-then-is_board : goal.returns-then-is_board
+returns-then-is_board c = asks_board (c.is_board.ensures.0 c.if-is_board.true)
 
 pub returns-in-Some : goal.returns-in-Some
 returns-in-Some c = asks_records c.in-Some.ensures
@@ -13,6 +13,6 @@ returns-in-Some c = asks_records c.in-Some.ensures
 pub returns-in-None : goal.returns-in-None
 returns-in-None c = λ call a.
     ⊎_elim
-    (λ x. not_from_Decides _ c.is-board.ensures c.if-is-board.false x.0)
+    (λ x. not_from_Decides _ c.is_board.ensures c.if-is_board.false x.0)
     (λ x. c.in-None.ensures x.0 x.1)
     (asked a)

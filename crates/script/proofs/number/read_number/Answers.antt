@@ -4,22 +4,22 @@ use Rattle.script.proofs.Finding.{finds_none}
 use Rattle.script.proofs.Numbering.{worth, worth_is, number_from, longer, no_longer, not_empty}
 use Rattle.script.proofs.number.read_number.Goals as goal
 
-pub returns-then-is-empty : goal.returns-then-is-empty
-returns-then-is-empty c = λ n found. omega (arith, not_empty found.0, true-eqb _ 0 c.if-is-empty.ensures)
+pub returns-then-is_empty : goal.returns-then-is_empty
+returns-then-is_empty c = λ n found. omega (arith, not_empty found.0, true-eqb _ 0 c.if-is_empty.ensures)
 
-pub returns-in-err-number : goal.returns-in-err-number
-returns-in-err-number c =
-    finds_none _ _ c.from-residual.ensures
+pub returns-in_err-number : goal.returns-in_err-number
+returns-in_err-number c =
+    finds_none _ _ c.from_residual.ensures
     (λ n found.
-    no_longer _ _ _ c.loop-b-test.true _ c.in-err-number.ensures n (c.loop-b.invariant.1 ∙ worth_is found.0) found.1)
+    no_longer _ _ _ c.loop-b-test.true _ c.in_err-number.ensures n (c.loop-b.invariant.1 ∙ worth_is found.0) found.1)
 
 pub loop-b-preserved : goal.loop-b-preserved
 loop-b-preserved c =
-    let found = c.in-ok-number.ensures in
+    let found = c.in_ok-number.ensures in
     (found.1, longer _ _ _ c.loop-b-test.true _ found.0 ∙ c.loop-b.invariant.1)
 
 pub returns : goal.returns
 returns c =
     let word = c.args.word.now in
     let closed = at_drop_all (λ t. worth t c.loop-b.number) word _ c.loop-b-test.false in
-    (number_from word _ (omega (arith, false-eqb _ 0 c.if-is-empty.ensures)) (sym c.loop-b.invariant.1 ∙ closed), c.loop-b.invariant.0)
+    (number_from word _ (omega (arith, false-eqb _ 0 c.if-is_empty.ensures)) (sym c.loop-b.invariant.1 ∙ closed), c.loop-b.invariant.0)

@@ -7,33 +7,33 @@ use Rattle.script.proofs.Giving.{alone_at, size_at}
 use Rattle.script.proofs.Parting.{one_beginning}
 use Rattle.script.proofs.settings.list_size.Goals as goal
 
-pub returns-in-err-word : goal.returns-in-err-word
-returns-in-err-word c =
-    finds_none _ _ c.from-residual.ensures (λ n s. c.in-err-word.ensures (codes "list", s.more) s.begun)
+pub returns-in_err-word : goal.returns-in_err-word
+returns-in_err-word c =
+    finds_none _ _ c.from_residual.ensures (λ n s. c.in_err-word.ensures (codes "list", s.more) s.begun)
 
-pub returns-in-err-lone-word : goal.returns-in-err-lone-word
-returns-in-err-lone-word c =
-    finds_none _ _ c.from-residual-in-err-lone-word.ensures
-    (λ n s. c.in-err-lone-word.ensures s.digits (alone_at s.begun c.in-ok-word.ensures s.alone))
+pub returns-in_err-lone_word : goal.returns-in_err-lone_word
+returns-in_err-lone_word c =
+    finds_none _ _ c.from_residual-in_err-lone_word.ensures
+    (λ n s. c.in_err-lone_word.ensures s.digits (alone_at s.begun c.in_ok-word.ensures s.alone))
 
-pub returns-in-ok-lone-word : goal.returns-in-ok-lone-word
-returns-in-ok-lone-word c =
-    let begun = c.in-ok-word.ensures in
-    let alone = c.in-ok-lone-word.ensures in
+pub returns-in_ok-lone_word : goal.returns-in_ok-lone_word
+returns-in_ok-lone_word c =
+    let begun = c.in_ok-word.ensures in
+    let alone = c.in_ok-lone_word.ensures in
     let list = (slice_eq-Decides Decides-eqb _ _ _ c.eq.ensures).0 c.if-eq.true in
-    finds_like _ _ c.read-number.result
+    finds_like _ _ c.read_number.result
     (λ n found.
     record {
-      more = c.in-ok-word.more.now;
-      digits = c.in-ok-lone-word.field-0.now;
-      begun = subst (λ w. Begins c.args.rest.now w c.in-ok-word.more.now) list begun;
+      more = c.in_ok-word.more.now;
+      digits = c.in_ok-lone_word.field-0.now;
+      begun = subst (λ w. Begins c.args.rest.now w c.in_ok-word.more.now) list begun;
       alone = alone;
       number = found.0;
       within = found.1;
     })
     (λ n s. size_at begun alone s)
-    c.read-number.ensures
+    c.read_number.ensures
 
 pub returns-else-eq : goal.returns-else-eq
 returns-else-eq c = λ n s.
-    not_from_Decides _ (slice_eq-Decides Decides-eqb _ _ _ c.eq.ensures) c.if-eq.false (one_beginning c.in-ok-word.ensures s.begun).0
+    not_from_Decides _ (slice_eq-Decides Decides-eqb _ _ _ c.eq.ensures) c.if-eq.false (one_beginning c.in_ok-word.ensures s.begun).0

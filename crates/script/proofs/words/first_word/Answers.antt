@@ -3,15 +3,15 @@ use Rattle.script.specs.Words.{front_word, past_word}
 use Rattle.script.proofs.Parting.{begins_with, word_some, word_is}
 use Rattle.script.proofs.words.first_word.Goals as goal
 
-pub returns-then-is-empty : goal.returns-then-is-empty
-returns-then-is-empty c = λ p b.
-    let word = c.split-word.ensures.word ∙ ap front_word c.past_blanks.ensures ∙ word_is _ _ _ b in
-    omega (arith, true-eqb _ 0 c.if-is-empty.ensures, word_some _ b.solid, ap length word)
+pub returns-then-is_empty : goal.returns-then-is_empty
+returns-then-is_empty c = λ p b.
+    let word = c.split_word.ensures.word ∙ ap front_word c.past_blanks.ensures ∙ word_is _ _ _ b in
+    omega (arith, true-eqb _ 0 c.if-is_empty.ensures, word_some _ b.solid, ap length word)
 
-pub returns-else-is-empty : goal.returns-else-is-empty
-returns-else-is-empty c =
+pub returns-else-is_empty : goal.returns-else-is_empty
+returns-else-is_empty c =
     let past = c.past_blanks.ensures in
     begins_with _ _ _
-    (c.split-word.ensures.word ∙ ap front_word past)
-    (c.split-word.ensures.rest ∙ ap past_word past)
-    (omega (arith, false-eqb _ 0 c.if-is-empty.ensures))
+    (c.split_word.ensures.word ∙ ap front_word past)
+    (c.split_word.ensures.rest ∙ ap past_word past)
+    (omega (arith, false-eqb _ 0 c.if-is_empty.ensures))

@@ -8,7 +8,7 @@ use Rattle.script.proofs.words.past_blanks.Goals.{then-loop-at-test+else-is-blan
 pub loop-at-preserved : goal.loop-at-preserved
 loop-at-preserved c = (
   omega arith,
-  blank_passed _ _ c.loop-at-test.true (sym c.if-is-blank.ensures) ∙ c.loop-at.invariant.1,
+  blank_passed _ _ c.loop-at-test.true (sym c.if-is_blank.ensures) ∙ c.loop-at.invariant.1,
 )
 
 pub returns : goal.returns
@@ -17,7 +17,7 @@ returns c =
     let at = c.loop-at.at in
     let stopped : past_blanks (drop at text) ≡ drop at text =
     elim c.loop-at-test.branch [
-      | then-loop-at-test+else-is-blank w ↦ blanks_end _ _ w.loop-at-test.true (sym w.if-is-blank.ensures)
+      | then-loop-at-test+else-is-blank w ↦ blanks_end _ _ w.loop-at-test.true (sym w.if-is_blank.ensures)
       | else-loop-at-test w ↦ blanks_out _ _ w.loop-at-test.false
     ]
     in

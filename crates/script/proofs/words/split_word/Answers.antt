@@ -7,7 +7,7 @@ use Rattle.script.proofs.words.split_word.Goals.{then-loop-at-test+else-not-is-b
 pub loop-at-preserved : goal.loop-at-preserved
 loop-at-preserved c =
     let inside = c.loop-at-test.true in
-    let solid = sym c.if-not-is-blank.ensures in
+    let solid = sym c.if-not-is_blank.ensures in
     (omega arith, byte_taken _ _ inside solid ∙ c.loop-at.invariant.1, byte_passed _ _ inside solid ∙ c.loop-at.invariant.2)
 
 pub returns : goal.returns
@@ -18,12 +18,12 @@ returns c =
     elim c.loop-at-test.branch [
       | then-loop-at-test+else-not-is-blank w ↦
           let inside = w.loop-at-test.true in
-          let is = sym w.if-not-is-blank.ensures in
+          let is = sym w.if-not-is_blank.ensures in
           (word_ends _ _ inside is, rest_begins _ _ inside is)
       | else-loop-at-test w ↦ (word_out _ _ w.loop-at-test.false, rest_out _ _ w.loop-at-test.false)
     ]
     in
     record {
-      word = c.split-at.ensures.front ∙ sym (append-nil _) ∙ ap (λ l. take at text ++ l) (sym stopped.0) ∙ c.loop-at.invariant.1;
-      rest = c.split-at.ensures.back ∙ sym stopped.1 ∙ c.loop-at.invariant.2;
+      word = c.split_at.ensures.front ∙ sym (append-nil _) ∙ ap (λ l. take at text ++ l) (sym stopped.0) ∙ c.loop-at.invariant.1;
+      rest = c.split_at.ensures.back ∙ sym stopped.1 ∙ c.loop-at.invariant.2;
     }

@@ -13,11 +13,11 @@ returns-then-offset-bytes c =
     ap (λ l. refused (layer_number l) 2 c.args.offset) c.layer.ensures
     ∙ ap (λ l. handed_on c.args.tape c.args.offset (first_order c.args.tape l)) (sym (drop_all c.args.offset c.args.bytes.now (omega arith)))
 
-pub returns-in-default : goal.returns-in-default
-returns-in-default c =
+pub returns-in_default : goal.returns-in_default
+returns-in_default c =
     ap (λ l. refused (layer_number l) 2 c.args.offset) c.layer.ensures
     ∙ hands_none c.args.tape c.args.offset (first_order c.args.tape (drop c.args.offset c.args.bytes.now))
-    (c.in-default.ensures ∙ ap (λ l. option_map with_size (first_order c.args.tape l)) (take_rest c.args.bytes.now c.args.offset))
+    (c.in_default.ensures ∙ ap (λ l. option_map with_size (first_order c.args.tape l)) (take_rest c.args.bytes.now c.args.offset))
 
 pub returns : goal.returns
 returns c =

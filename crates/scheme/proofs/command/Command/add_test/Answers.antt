@@ -3,8 +3,8 @@ use Rattle.model.specs.Bounded.{listed}
 use Rattle.scheme.proofs.Growing.{pushed, tests_grow, no_steps_yet}
 use Rattle.scheme.proofs.command.Command.add_test.Goals as goal
 
-pub invariant-of-self : goal.invariant-of-self
-invariant-of-self c =
+pub invariant_of-self : goal.invariant_of-self
+invariant_of-self c =
     let self = c.args.self.now in
     let room : length (listed self.tests) < 16 = omega arith in
     let none : length (listed self.steps) ≡ 0 = omega arith in
@@ -15,7 +15,7 @@ invariant-of-self c =
         (
           self.declared,
           (
-            tests_grow self.params self.cards (listed self.tests) c.args.test _ _ new self.tested (sym c.if-not-is-in-range.ensures) (sym c.if-not-is-row-declared.ensures),
+            tests_grow self.params self.cards (listed self.tests) c.args.test _ _ new self.tested (sym c.if-not-is_in_range.ensures) (sym c.if-not-is_row_declared.ensures),
             (no_steps_yet _ (listed self.steps) none, tt),
           ),
         ),

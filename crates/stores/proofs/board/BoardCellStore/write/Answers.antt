@@ -13,11 +13,11 @@ returns c =
     let hs : s < 64 = omega arith in
     let ho : o < 64 = omega arith in
     let long : length xs ≡ 4096 = omega arith in
-    let place : c.place-of.result ≡ 64 * s + o = c.place-of.ensures in
+    let place : c.place_of.result ≡ 64 * s + o = c.place_of.ensures in
     let fit = whole xs long in
     record {
       answer = sym (board_takes xs (on_names (board_cells xs)) s o m long hs ho);
       after = rw place (place_written xs s o m long hs ho);
-      limit = ap (λ b. cond b 4096 0) (same_fit xs c.place-of.result m);
+      limit = ap (λ b. cond b 4096 0) (same_fit xs c.place_of.result m);
       memory = rw (fit, place) refl;
     }

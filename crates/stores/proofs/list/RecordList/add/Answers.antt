@@ -3,8 +3,8 @@ use Rattle.std.proofs.lemmas.Bool.{lt-ltb}
 use Rattle.stores.proofs.Holding.{list_added}
 use Rattle.stores.proofs.list.RecordList.add.Goals as goal
 
-pub invariant-of-self : goal.invariant-of-self
-invariant-of-self c =
+pub invariant_of-self : goal.invariant_of-self
+invariant_of-self c =
     let l = c.args.self.now in
     let r = c.args.added in
     let edit = list_added l r (omega arith) (c.requires.names.0, c.requires.names.1, c.requires.some) c.requires.absent in

@@ -2,8 +2,8 @@ use Rattle.std.proofs.Common.{refl}
 use Rattle.stores.proofs.Holding.{read_at, list_changed}
 use Rattle.stores.proofs.list.RecordList.change.Goals as goal
 
-pub invariant-of-self : goal.invariant-of-self
-invariant-of-self c =
+pub invariant_of-self : goal.invariant_of-self
+invariant_of-self c =
     let l = c.args.self.now in
     let edit = list_changed l c.args.i c.args.mask _ c.requires.in_use c.requires.some (read_at l c.args.i _ c.requires.in_use c.index-record.ensures) in
     (l.room, (l.some, (l.few, (edit.full, (edit.apart, tt)))))

@@ -10,5 +10,5 @@ use Rattle.stores.proofs.list.RecordList.records.Goals as goal
 pub returns : goal.returns
 returns c =
     let l = c.args.self.now in
-    let value : take (l.used - 0) c.as-slice-all.result.now ≡ in_use l = rw (sub-zero, c.as-slice-all.ensures.value) refl in
+    let value : take (l.used - 0) c.as_slice-all.result.now ≡ in_use l = rw (sub-zero, c.as_slice-all.ensures.value) refl in
     record { value = value; exact = subst (λ (rs : List Record). Lists rs (on_names (list_cells l))) (sym value) (exact l) }

@@ -2,8 +2,8 @@ use Rattle.std.proofs.Common.{◌-◌, refl, arith}
 use Rattle.stores.proofs.Holding.{read_at, list_removed}
 use Rattle.stores.proofs.list.RecordList.remove.Goals as goal
 
-pub invariant-of-self : goal.invariant-of-self
-invariant-of-self c =
+pub invariant_of-self : goal.invariant_of-self
+invariant_of-self c =
     let l = c.args.self.now in
     let edit = list_removed l c.args.i _ c.requires (read_at l (l.used - 1) _ (omega arith) c.index-record.ensures) in
     (omega (arith, l.room), (l.some, (l.few, (edit.full, (edit.apart, tt)))))

@@ -17,6 +17,6 @@ one_byte c n e =
 pub returns-clause-writes : goal.returns-clause-writes
 returns-clause-writes g c =
     let m = c.args.self.now.0 in
-    let text : encode c.hex-digit-a.result ++ (encode c.hex-digit-b.result ++ (encode c.hex-digit-c.result ++ encode c.hex-digit-d.result)) ≡ mask_words m =
-    rw (one_byte _ (m / 4096) c.hex-digit-a.ensures, one_byte _ (m / 256) c.hex-digit-b.ensures, one_byte _ (m / 16) c.hex-digit-c.ensures, one_byte _ m c.hex-digit-d.ensures) refl in
+    let text : encode c.hex_digit-a.result ++ (encode c.hex_digit-b.result ++ (encode c.hex_digit-c.result ++ encode c.hex_digit-d.result)) ≡ mask_words m =
+    rw (one_byte _ (m / 4096) c.hex_digit-a.ensures, one_byte _ (m / 256) c.hex_digit-b.ensures, one_byte _ (m / 16) c.hex_digit-c.ensures, one_byte _ m c.hex_digit-d.ensures) refl in
     subst (λ (ws : List ℕ). WritesOnOk g.W.Write.write_str_gives c.args.f.now c.write.result ws c.write.new.self) text c.write.ensures.writes
