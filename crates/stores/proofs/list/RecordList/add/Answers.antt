@@ -8,7 +8,7 @@ invariant_of-self c =
     let l = c.args.self.now in
     let r = c.args.added in
     let edit = list_added l r (omega arith) (c.requires.names.0, c.requires.names.1, c.requires.some) c.requires.absent in
-    (omega arith, (l.some, (l.few, (edit.full, (edit.apart, tt)))))
+    record { room = omega arith; some = l.some; few = l.few; full = edit.full; apart = edit.apart }
 
 pub returns : goal.returns
 returns c =

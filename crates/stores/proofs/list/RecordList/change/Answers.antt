@@ -6,7 +6,7 @@ pub invariant_of-self : goal.invariant_of-self
 invariant_of-self c =
     let l = c.args.self.now in
     let edit = list_changed l c.args.i c.args.mask _ c.requires.in_use c.requires.some (read_at l c.args.i _ c.requires.in_use c.index-record.ensures) in
-    (l.room, (l.some, (l.few, (edit.full, (edit.apart, tt)))))
+    record { room = l.room; some = l.some; few = l.few; full = edit.full; apart = edit.apart }
 
 pub returns : goal.returns
 returns c =

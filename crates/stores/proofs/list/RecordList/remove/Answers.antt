@@ -6,7 +6,7 @@ pub invariant_of-self : goal.invariant_of-self
 invariant_of-self c =
     let l = c.args.self.now in
     let edit = list_removed l c.args.i _ c.requires (read_at l (l.used - 1) _ (omega arith) c.index-record.ensures) in
-    (omega (arith, l.room), (l.some, (l.few, (edit.full, (edit.apart, tt)))))
+    record { room = omega (arith, l.room); some = l.some; few = l.few; full = edit.full; apart = edit.apart }
 
 pub returns : goal.returns
 returns c =
