@@ -54,7 +54,7 @@ module _ (tape : Tape) (byte : ℕ) (rest : List ℕ) (row : OrderRow) (on : Som
 
   -- enough operands never fail to be decoded
   pub decodes : (n : ℕ) → n ≡ row.operands → None ≡ decoded byte (take n rest) → ⊥
-  decodes n same missed = none_some _ (sym (missed ∙ ap (λ k. decoded byte (take k rest)) same ∙ cut))
+  decodes n same missed = none_some _ (missed ∙ ap (λ k. decoded byte (take k rest)) same ∙ cut)
 
 -- what `handed_on` says, from the order that was found with its size
 pub hands : (tape : Tape) (offset : ℕ) (o : Option Case) (order : Case) (size : ℕ) → Some (order, size) ≡ option_map with_size o → accepted (record { order = order; offset = offset; size = size }) ≡ handed_on tape offset o
