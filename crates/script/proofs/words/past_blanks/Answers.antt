@@ -3,7 +3,7 @@ use Rattle.std.proofs.lemmas.List.{take_rest}
 use Rattle.script.specs.Words.{past_blanks}
 use Rattle.script.proofs.Scanning.{blank_passed, blanks_end, blanks_out}
 use Rattle.script.proofs.words.past_blanks.Goals as goal
-use Rattle.script.proofs.words.past_blanks.Goals.{then-loop-at-test+else-is-blank, else-loop-at-test}
+use Rattle.script.proofs.words.past_blanks.Goals.{then-loop-at-test+else-is_blank, else-loop-at-test}
 
 pub loop-at-preserved : goal.loop-at-preserved
 loop-at-preserved c = (
@@ -17,7 +17,7 @@ returns c =
     let at = c.loop-at.at in
     let stopped : past_blanks (drop at text) ≡ drop at text =
     elim c.loop-at-test.branch [
-      | then-loop-at-test+else-is-blank w ↦ blanks_end _ _ w.loop-at-test.true (sym w.if-is_blank.ensures)
+      | then-loop-at-test+else-is_blank w ↦ blanks_end _ _ w.loop-at-test.true (sym w.if-is_blank.ensures)
       | else-loop-at-test w ↦ blanks_out _ _ w.loop-at-test.false
     ]
     in

@@ -2,7 +2,7 @@ use Rattle.std.proofs.Common.{◌≡◌, [], ◌++◌, take, drop, sym, ap, ◌�
 use Rattle.script.specs.Words.{front_word, past_word}
 use Rattle.script.proofs.Scanning.{byte_passed, byte_taken, word_ends, word_out, rest_begins, rest_out}
 use Rattle.script.proofs.words.split_word.Goals as goal
-use Rattle.script.proofs.words.split_word.Goals.{then-loop-at-test+else-not-is-blank, else-loop-at-test}
+use Rattle.script.proofs.words.split_word.Goals.{then-loop-at-test+else-not-is_blank, else-loop-at-test}
 
 pub loop-at-preserved : goal.loop-at-preserved
 loop-at-preserved c =
@@ -16,7 +16,7 @@ returns c =
     let at = c.loop-at.at in
     let stopped : (front_word (drop at text) ≡ []) × (past_word (drop at text) ≡ drop at text) =
     elim c.loop-at-test.branch [
-      | then-loop-at-test+else-not-is-blank w ↦
+      | then-loop-at-test+else-not-is_blank w ↦
           let inside = w.loop-at-test.true in
           let is = sym w.if-not-is_blank.ensures in
           (word_ends _ _ inside is, rest_begins _ _ inside is)
