@@ -15,7 +15,7 @@ returns-in_err-end c =
 
 pub loop-at-init : goal.loop-at-init
 loop-at-init c =
-    (subst (SoFar c.args.counts.now c.args.tape.now 0) (sym c.empty_draft.ensures) (at_start c.args.counts.now c.args.tape.now), omega arith)
+    (subst (SoFar c.args.counts.now c.args.tape.now 0) (sym c.empty-draft.ensures) (at_start c.args.counts.now c.args.tape.now), omega arith)
 
 pub returns-in_err-placed : goal.returns-in_err-placed
 returns-in_err-placed c =

@@ -1,4 +1,4 @@
-use Rattle.std.proofs.Common.{codes, subst}
+use Rattle.std.proofs.Common.{◌≡◌, codes, sym, ◌∙◌, subst}
 use Rattle.std.proofs.lemmas.Slice.Eq.{slice_eq-Decides}
 use Rattle.std.proofs.lemmas.Bool.Decides.{not_from_Decides, Decides-eqb}
 use Rattle.script.specs.Words.{Begins}
@@ -20,7 +20,7 @@ pub returns-in_ok-lone_word : goal.returns-in_ok-lone_word
 returns-in_ok-lone_word c =
     let begun = c.in_ok-word.ensures in
     let alone = c.in_ok-lone_word.ensures in
-    let list = (slice_eq-Decides Decides-eqb _ _ _ c.eq.ensures).0 c.if-eq.true in
+    let list : c.in_ok-word.word.now ≡ codes "list" = (slice_eq-Decides Decides-eqb _ _ _ c.eq.ensures).0 c.if-eq.true ∙ c.as_slice.ensures in
     finds_like _ _ c.read_number.result
     (λ n found.
     record {
@@ -36,4 +36,4 @@ returns-in_ok-lone_word c =
 
 pub returns-else-eq : goal.returns-else-eq
 returns-else-eq c = λ n s.
-    not_from_Decides _ (slice_eq-Decides Decides-eqb _ _ _ c.eq.ensures) c.if-eq.false (one_beginning c.in_ok-word.ensures s.begun).0
+    not_from_Decides _ (slice_eq-Decides Decides-eqb _ _ _ c.eq.ensures) c.if-eq.false ((one_beginning c.in_ok-word.ensures s.begun).0 ∙ sym c.as_slice.ensures)
