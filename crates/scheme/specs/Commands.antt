@@ -3,7 +3,6 @@ use Rattle.std.specs.Prelude.{ℕ, ◌^◌, Bool, not, ◌&&◌, List, [], ◌�
 use Rattle.model.specs.declared.counts.Counts.{Counts}
 use Rattle.scheme.specs.declared.step.Step.{Step}
 use Rattle.scheme.specs.declared.test.Test.{Test}
-use Rattle.scheme.specs.Lists.{all, each_after}
 use Rattle.scheme.specs.Steps.{step_shaped, step_valued, step_row_declared, well_placed}
 use Rattle.scheme.specs.Tests.{test_shaped, test_valued, test_row_declared}
 

@@ -1,16 +1,15 @@
 -- The orders of the scheme tape can be told apart, and the table of orders finds each of them.
-use Rattle.std.proofs.Common.{◌≡◌, ℕ, ◌+◌, ◌≤◌, Bool, true, false, cond, eqb, leb, List, [], ◌∷◌, ◌++◌, length, take, drop, is_some, Some, None, Option, sym, refl, ap, ◌∙◌, arith, take-append-drop}
-use Rattle.std.proofs.lemmas.List.{length-take-le, length-append}
-use Rattle.std.proofs.lemmas.Bool.{le-leb, leb-true, false≢true}
+use Rattle.std.proofs.Common.{◌≡◌, ℕ, true, cond, eqb, leb, List, [], ◌∷◌, ◌++◌, length, is_some, Some, None, Option, sym, refl, ap, arith}
+use Rattle.std.proofs.lemmas.List.{length-append}
+use Rattle.std.proofs.lemmas.Bool.{le-leb, false≢true}
 use Rattle.model.proofs.Cases.{none_some, same_some}
 use Rattle.scheme.specs.declared.step.Step.TheVariants.{Enter, Delete, Set, Create, Destroy}
 use Rattle.scheme.specs.declared.test.Test.TheVariants.{Holds, Is, IsNot, Covers}
 use Rattle.tapes.specs.declared.order.Order.{Order}
 use Rattle.tapes.specs.declared.order.Order.TheVariants as order
 use Rattle.tapes.specs.declared.tape.Tape.TheVariants.{Scheme}
-use Rattle.tapes.specs.Orders.{Case, spelt, case_of}
+use Rattle.tapes.specs.Orders.{spelt, case_of}
 use Rattle.tapes.specs.Readers.{first_order, row_on}
-use Rattle.tapes.proofs.Handing.{order_on}
 use Rattle.scheme_tape.specs.Instructions.{Instruction, begins, tests, steps, ends, instruction_case, code}
 use Rattle.scheme_tape.specs.Said.{said}
 

@@ -1,5 +1,5 @@
 -- How the reader's calls answer, and what each way out of its loop shows of the tape.
-use Rattle.std.proofs.Common.{◌≡◌, ℕ, ◌+◌, ◌<◌, ◌≤◌, Bool, true, false, cond, leb, ◌⊎◌, List, [], ◌∷◌, ◌++◌, length, drop, Some, None, Option, sym, refl, ap, ◌∙◌, subst, inl, inr, arith}
+use Rattle.std.proofs.Common.{◌≡◌, ℕ, ◌<◌, ◌≤◌, Bool, true, false, cond, leb, List, length, drop, Some, None, Option, sym, refl, ap, ◌∙◌, subst, inl, inr, arith}
 use Rattle.std.proofs.lemmas.List.{length-append}
 use Rattle.std.proofs.lemmas.Bool.{leb-true, leb-false}
 use Rattle.model.specs.declared.counts.Counts.{Counts}
@@ -8,10 +8,10 @@ use Rattle.model.proofs.Cases.{accepted_refused, same_value, same_layer, same_nu
 use Rattle.scheme.specs.Commands.{Command}
 use Rattle.tapes.specs.declared.order.Order.{Order}
 use Rattle.tapes.specs.declared.tape.Tape.TheVariants.{Scheme}
-use Rattle.tapes.specs.Grammars.{Stopped, Refused, codes}
+use Rattle.tapes.specs.Grammars.{Stopped, codes}
 use Rattle.tapes.specs.Orders.{Case, case_of}
 use Rattle.tapes.specs.Readers.{At, measured, handed_on, first_order, size_of}
-use Rattle.scheme_tape.specs.Drafts.{Draft, scheme_grammar, finish, finish_at}
+use Rattle.scheme_tape.specs.Drafts.{Draft, scheme_grammar, finish_at}
 use Rattle.scheme_tape.specs.Reading.{SchemeRead}
 use Rattle.scheme_tape.specs.Said.{said, broken_order, taken}
 use Rattle.scheme_tape.proofs.Loop.{SoFar, stop_no_order, stop_broken, stop_cut_short, whole}

@@ -1,15 +1,15 @@
 -- The turns of the reader's loop: what has been read is a lawful run of orders, and where it stops it says why.
-use Rattle.std.proofs.Common.{◌≡◌, ℕ, ◌+◌, ◌<◌, ◌≤◌, true, false, ◌⊎◌, List, [], ◌∷◌, ◌++◌, length, take, drop, is_some, Some, None, Option, sym, refl, ap, ◌∙◌, subst, inl, inr, append_assoc, append-nil, arith, length-drop}
+use Rattle.std.proofs.Common.{◌≡◌, ℕ, ◌+◌, ◌<◌, true, false, List, [], ◌∷◌, ◌++◌, length, drop, is_some, Some, None, sym, refl, ap, ◌∙◌, subst, append_assoc, append-nil, arith, length-drop}
 use Rattle.std.proofs.lemmas.List.{drop-drop, drop_all, length-append}
 use Rattle.model.specs.declared.counts.Counts.{Counts}
 use Rattle.tapes.specs.declared.order.Order.{Order}
 use Rattle.tapes.specs.declared.tape.Tape.TheVariants.{Scheme}
-use Rattle.tapes.specs.Grammars.{Runs, done, codes, no_order, breaks_rule, cut_short, Stopped, Refused, Whole}
-use Rattle.tapes.specs.Orders.{Case, spelt, case_of}
+use Rattle.tapes.specs.Grammars.{Runs, done, codes, no_order, breaks_rule, cut_short, Stopped, Whole}
+use Rattle.tapes.specs.Orders.{case_of}
 use Rattle.tapes.specs.Readers.{first_order, size_of}
 use Rattle.tapes.proofs.Handing.{order_splits, order_on}
 use Rattle.tapes.proofs.Reading.{runs_on, codes_join, some_none}
-use Rattle.scheme_tape.specs.Drafts.{Draft, empty_draft, broken, extended, scheme_grammar}
+use Rattle.scheme_tape.specs.Drafts.{Draft, empty_draft, scheme_grammar}
 use Rattle.scheme_tape.specs.Instructions.{Instruction, instruction_case, code}
 use Rattle.scheme_tape.specs.Said.{said, broken_order, extended_order}
 use Rattle.scheme_tape.proofs.Decoding.{listed, said_code, says}

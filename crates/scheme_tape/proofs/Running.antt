@@ -1,5 +1,5 @@
 -- The orders of a well_formed scheme, one after the other, break no rule.
-use Rattle.std.proofs.Common.{◌≡◌, ℕ, ◌+◌, ◌<◌, ◌≤◌, true, false, leb, List, [], ◌∷◌, ◌++◌, map, length, Some, None, sym, refl, ap, ◌∙◌, subst, append_assoc, append-nil, arith}
+use Rattle.std.proofs.Common.{◌≡◌, ℕ, ◌+◌, ◌<◌, ◌≤◌, true, leb, List, [], ◌∷◌, ◌++◌, map, length, Some, None, sym, refl, ap, ◌∙◌, subst, append_assoc, append-nil, arith}
 use Rattle.std.proofs.lemmas.List.{length_push}
 use Rattle.std.proofs.lemmas.Bool.{and_parts, and_from, leb-true, lt-leb, not_from_true}
 use Rattle.std.specs.List.{flat_map}
@@ -13,7 +13,7 @@ use Rattle.scheme.specs.Steps.{step_valued}
 use Rattle.scheme.specs.Tests.{test_valued}
 use Rattle.tapes.specs.Grammars.{Runs, done, then, codes, Whole}
 use Rattle.tapes.proofs.Reading.{runs_join, codes_join}
-use Rattle.scheme_tape.specs.Drafts.{Draft, empty_draft, scheme_grammar}
+use Rattle.scheme_tape.specs.Drafts.{Draft, scheme_grammar}
 use Rattle.scheme_tape.specs.Encoding.{encode_command, encode}
 use Rattle.scheme_tape.specs.Instructions.{Instruction, begins, tests, steps, ends, code}
 use Rattle.scheme_tape.proofs.Shaping.{Good, to_good, from_unbroken}

@@ -1,5 +1,5 @@
 -- Orders that break no rule write a well_formed scheme, and their bytes are its encoding.
-use Rattle.std.proofs.Common.{◌≡◌, ℕ, ◌+◌, ◌<◌, ◌≤◌, Bool, true, false, cond, not, ◌&&◌, ltb, leb, List, [], ◌∷◌, ◌++◌, length, Some, None, Option, sym, refl, ap, ◌∙◌, subst, append_assoc, append-nil, arith}
+use Rattle.std.proofs.Common.{◌≡◌, ℕ, ◌<◌, ◌≤◌, Bool, true, false, cond, leb, List, [], ◌∷◌, ◌++◌, length, Some, None, Option, sym, refl, ap, ◌∙◌, append_assoc, append-nil, arith}
 use Rattle.std.proofs.lemmas.List.{length_push, nil_from_length}
 use Rattle.std.proofs.lemmas.Bool.{and_parts, and_from, le-leb, leb-true, leb-false, ltb-false, not-false}
 use Rattle.std.specs.List.{flat_map}
@@ -8,11 +8,11 @@ use Rattle.model.specs.Answers.{lowest}
 use Rattle.model.proofs.Cases.{none_some}
 use Rattle.scheme.specs.declared.step.Step.{Step}
 use Rattle.scheme.specs.declared.test.Test.{Test}
-use Rattle.scheme.specs.Commands.{Command, test_fits, step_fits, begin_in_range, begun, with_test, with_step, begin_rules, test_rules, step_rules}
+use Rattle.scheme.specs.Commands.{Command, test_fits, step_fits, begin_in_range, begin_rules, test_rules, step_rules}
 use Rattle.scheme.specs.Lists.{all, each_after}
 use Rattle.scheme.specs.Schemes.{well_formed_command, well_formed}
-use Rattle.scheme.specs.Steps.{step_shaped, step_valued, step_row_declared, well_placed}
-use Rattle.scheme.specs.Tests.{test_shaped, test_valued, test_row_declared}
+use Rattle.scheme.specs.Steps.{step_shaped, step_valued}
+use Rattle.scheme.specs.Tests.{test_shaped, test_valued}
 use Rattle.scheme.proofs.Growing.{all_push, each_push}
 use Rattle.tapes.specs.Grammars.{Runs, done, then, codes, Whole}
 use Rattle.scheme_tape.specs.Drafts.{Draft, empty_draft, broken, extended, scheme_grammar}

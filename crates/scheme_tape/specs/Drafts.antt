@@ -1,5 +1,5 @@
 -- A scheme that is being written, and the rules that an order may break when it comes next.
-use Rattle.std.specs.Prelude.{ℕ, Bool, cond, List, [], ◌∷◌, ◌++◌, length, is_some, Some, None, Option, nat_le, nat_lt}
+use Rattle.std.specs.Prelude.{ℕ, cond, List, [], ◌∷◌, ◌++◌, length, is_some, Some, None, Option, nat_le, nat_lt}
 use Rattle.model.specs.declared.counts.Counts.{Counts}
 use Rattle.model.specs.Answers.{Answer, accepted, refused, lowest}
 use Rattle.scheme.specs.Commands.{Command, begun, with_test, with_step, begin_rules, test_rules, step_rules}

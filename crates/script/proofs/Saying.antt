@@ -3,7 +3,6 @@ use Rattle.std.proofs.Common.{◌≡◌, ℕ, true, false, cond, ◌⊎◌, List
 use Rattle.std.specs.Str.{bytes_eq}
 use Rattle.std.proofs.lemmas.Bool.{cases_Bool, eqb-true, both_ways}
 use Rattle.script.specs.declared.keyword.Keyword.{Keyword}
-use Rattle.script.specs.declared.keyword.Keyword.TheVariants as Keyword
 use Rattle.script.specs.Words.{Blanks, Begins, Alone, past_blanks, front_word, past_word}
 use Rattle.script.specs.Hex.{Spells}
 use Rattle.script.specs.Settings.{Sized, Filters}

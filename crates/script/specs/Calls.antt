@@ -1,7 +1,6 @@
 -- What a line of a script says.
 use Rattle.std.specs.Prelude.{◌≡◌, ℕ, Bool, true, List, [], ◌∷◌, ◌++◌, Some, None, vec_items, codes, Option, ◌==◌}
 use Rattle.script.specs.declared.keyword.Keyword.{Keyword}
-use Rattle.script.specs.declared.keyword.Keyword.TheVariants as Keyword
 use Rattle.script.specs.declared.line.Line.{Line}
 use Rattle.script.specs.declared.line.Line.TheVariants.{Nothing, Scheme, List as Listing, StoreBoard, StoreList, Filter, Unreadable}
 use Rattle.script.specs.Words.{Blanks, Begins, Alone}

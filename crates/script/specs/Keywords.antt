@@ -1,7 +1,6 @@
 -- How the keywords are written: in lower case only.
 use Rattle.std.specs.Prelude.{ℕ, List, codes}
 use Rattle.script.specs.declared.keyword.Keyword.{Keyword}
-use Rattle.script.specs.declared.keyword.Keyword.TheVariants as Keyword
 
 abbrev pub spelling : Keyword → List ℕ
 spelling Keyword.Scheme = codes "scheme"

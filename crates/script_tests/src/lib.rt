@@ -168,7 +168,7 @@ mod tests {
     fn hex_alone(rt: HostRuntime) -> Result<(), Fail> {
         match read_hex(rt.alloc(), b" 00\r7E ")? {
             Some(bytes) => {
-                assert!(rt; bytes.as_slice() == &[0, 126]);
+                assert!(rt; bytes.as_slice() == [0, 126].as_slice());
                 Ok(())
             },
             None => {

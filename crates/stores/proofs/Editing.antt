@@ -1,9 +1,9 @@
 -- The three edits of a list of records: another mask in a record, one record more, one record less.
-use Rattle.std.proofs.Common.{◌≡◌, ℕ, zero, suc, ◌+◌, ◌-◌, ◌<◌, ◌≤◌, Bool, true, false, cond, ◌&&◌, ◌⊎◌, List, [], ◌∷◌, length, get_or, take, set, sym, refl, ap, ◌∙◌, subst, inl, inr, ⊎_elim, add-one, arith, length-set, get_or-set_other, get_or-set_same}
+use Rattle.std.proofs.Common.{◌≡◌, ℕ, suc, ◌<◌, ◌≤◌, List, length, set, sym, refl, ap, ◌∙◌, subst, ⊎_elim, arith, length-set, get_or-set_other, get_or-set_same}
 use lib.Seq.{take-set-le}
 use Rattle.std.proofs.lemmas.Bool.{cases_eq}
 use Rattle.stores.specs.declared.record.Record.{Record}
-use Rattle.stores.specs.Matrices.{Matrix, written, on_names}
+use Rattle.stores.specs.Matrices.{written, on_names}
 use Rattle.stores.specs.Records.{no_record, at, Of, put, matrix_of, Full, Apart, Absent}
 use Rattle.stores.proofs.Listing.{first, first_more, beside, of_absent, of_cell, apart_both, same_cell}
 use Rattle.stores.proofs.Writing.{written_here, written_by}

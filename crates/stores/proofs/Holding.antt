@@ -1,5 +1,5 @@
 -- What holds of every list store, by its invariant, and what the edits make of it.
-use Rattle.std.proofs.Common.{◌≡◌, ℕ, suc, ◌+◌, ◌-◌, ◌<◌, ◌≤◌, Bool, true, false, length, get_or, take, set, MatchBool, sym, refl, ap, ◌∙◌, subst, add-one, arith}
+use Rattle.std.proofs.Common.{◌≡◌, ℕ, suc, ◌+◌, ◌-◌, ◌<◌, ◌≤◌, Bool, true, false, length, get_or, set, MatchBool, sym, ◌∙◌, subst, add-one, arith}
 use Rattle.std.proofs.lemmas.List.{get_or_read}
 use Rattle.stores.specs.declared.list.RecordList.{RecordList}
 use Rattle.stores.specs.declared.record.Record.{Record}
@@ -7,7 +7,7 @@ use Rattle.stores.specs.Matrices.{on_names, count}
 use Rattle.stores.specs.RecordLists.{records_of, in_use, list_cells}
 use Rattle.stores.specs.Records.{no_record, at, Of, Absent, Lists}
 use Rattle.stores.proofs.Editing.{Edited, mask_changed, record_added, record_removed}
-use Rattle.stores.proofs.Listing.{first, of_absent, of_cell, lists_exactly, count_records}
+use Rattle.stores.proofs.Listing.{of_absent, of_cell, lists_exactly, count_records}
 use Rattle.stores.proofs.Writing.{empty_named, at_names}
 
 pub long : (l : RecordList) → l.used ≤ length (records_of l)

@@ -1,10 +1,10 @@
 -- What a list of records says of a cell, and how many cells it fills.
-use Rattle.std.proofs.Common.{◌≡◌, ℕ, zero, suc, ◌+◌, ◌<◌, ◌≤◌, Bool, true, false, cond, ◌&&◌, ◌⊎◌, List, [], ◌∷◌, length, get_or, take, fold, sym, refl, ap, ◌∙◌, subst, inl, inr, ⊎_elim, not-suc-le-zero, add-one, arith, get_or-take}
+use Rattle.std.proofs.Common.{◌≡◌, ℕ, zero, suc, ◌+◌, ◌<◌, ◌≤◌, ◌⊎◌, List, length, take, sym, refl, ap, ◌∙◌, subst, inl, inr, ⊎_elim, not-suc-le-zero, add-one, arith, get_or-take}
 use Rattle.std.proofs.lemmas.List.{length-take-le}
 use Rattle.std.proofs.lemmas.List.Sums.{fold_more}
 use Rattle.std.proofs.lemmas.Bool.{cases_eq, cases_lt, lt-ltb}
 use Rattle.stores.specs.declared.record.Record.{Record}
-use Rattle.stores.specs.Matrices.{Matrix, blank, written, on_names, some, one_if, count}
+use Rattle.stores.specs.Matrices.{Matrix, blank, on_names, some, one_if, count}
 use Rattle.stores.specs.Records.{no_record, at, Of, put, matrix_of, Full, Apart, Absent, Lists}
 use Rattle.stores.proofs.Counting.{count_blank, count_written, count_on_names}
 use Rattle.stores.proofs.Writing.{written_here, written_row, written_column, at_names, empty_named}

@@ -1,5 +1,5 @@
 -- When a write between two names is taken.
-use Rattle.std.proofs.Common.{◌≡◌, ℕ, ◌<◌, Bool, true, false, not, ◌&&◌, ◌||◌, ltb, sym, refl, ap, ◌∙◌}
+use Rattle.std.proofs.Common.{◌≡◌, ℕ, ◌<◌, true, not, ◌||◌, ltb, refl}
 use Rattle.std.proofs.lemmas.Bool.{lt-ltb, or_right}
 use Rattle.stores.specs.Matrices.{Matrix, some, count, takes}
 

@@ -1,14 +1,14 @@
 -- How an order is found at the front of some bytes, and handed on.
-use Rattle.std.proofs.Common.{◌≡◌, ℕ, ◌+◌, ◌-◌, ◌≤◌, Bool, true, false, cond, leb, List, [], ◌∷◌, ◌++◌, length, take, drop, is_some, Some, None, Option, sym, refl, ap, ◌∙◌, subst, one-add, arith, take-append-drop}
-use Rattle.std.proofs.lemmas.List.{length-take-le, take-take, drop_all}
-use Rattle.std.proofs.lemmas.Bool.{le-leb, leb-true, cases_Bool}
+use Rattle.std.proofs.Common.{◌≡◌, ℕ, ◌+◌, ◌≤◌, Bool, true, false, cond, leb, List, [], ◌∷◌, ◌++◌, length, take, drop, is_some, Some, None, Option, sym, refl, ap, ◌∙◌, subst, one-add, arith, take-append-drop}
+use Rattle.std.proofs.lemmas.List.{length-take-le, take-take}
+use Rattle.std.proofs.lemmas.Bool.{le-leb, leb-true}
 use Rattle.std.specs.Option.{option_map}
-use Rattle.model.specs.Answers.{Answer, accepted}
+use Rattle.model.specs.Answers.{accepted}
 use Rattle.model.proofs.Cases.{none_some}
 use Rattle.tapes.specs.declared.table.OrderRow.{OrderRow}
 use Rattle.tapes.specs.declared.tape.Tape.{Tape}
 use Rattle.tapes.specs.Orders.{Case, spelt, decoded, decoded_by}
-use Rattle.tapes.specs.Readers.{At, only_on, row_on, first_order, with_size, handed_on, size_of}
+use Rattle.tapes.specs.Readers.{only_on, row_on, first_order, with_size, handed_on, size_of}
 use Rattle.tapes.specs.Table.{row_of}
 use Rattle.tapes.specs.Tapes.{same_tape}
 

@@ -1,8 +1,6 @@
 -- A tape has one reading, in every grammar whose orders can be told apart.
-use Rattle.std.proofs.Common.{◌≡◌, ℕ, ◌+◌, true, false, List, [], ◌∷◌, ◌++◌, length, Some, None, Option, sym, refl, ap, ◌∙◌, subst, append_assoc, append-nil, arith}
-use Rattle.std.proofs.lemmas.List.{length-append}
+use Rattle.std.proofs.Common.{◌≡◌, ℕ, false, List, [], ◌∷◌, ◌++◌, length, Some, None, Option, sym, refl, ap, ◌∙◌, subst, append_assoc, append-nil}
 use Rattle.std.proofs.lemmas.Bool.{both_ways}
-use Rattle.std.specs.List.{flat_map}
 use Rattle.model.proofs.Cases.{none_some}
 use Rattle.tapes.specs.Grammars.{Grammar, Runs, done, then, codes, Fails, no_order, breaks_rule, cut_short, Stopped, Whole}
 

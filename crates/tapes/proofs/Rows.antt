@@ -1,8 +1,8 @@
 -- The rule of the table of orders, by one test over the whole table.
-use Rattle.std.proofs.Common.{◌≡◌, ℕ, ◌<◌, Bool, true, false, not, ◌||◌, eqb, sym, refl, ◌∙◌, ⊎_elim}
+use Rattle.std.proofs.Common.{◌≡◌, ℕ, Bool, true, not, ◌||◌, eqb, refl, ⊎_elim}
 use Rattle.std.proofs.lemmas.Bool.{eqb-true, eq-eqb, or_cases, not-true, both_ways}
 use Rattle.model.proofs.Finite.{all_below, at_each}
-use Rattle.tapes.specs.Table.{rows, byte_at, OneRow}
+use Rattle.tapes.specs.Table.{byte_at, OneRow}
 
 -- other bytes, or the same place
 abbrev apart : ℕ → ℕ → Bool

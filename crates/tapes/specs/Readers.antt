@@ -1,5 +1,5 @@
 -- Reading a tape order by order: which order stands at an offset, by the table of orders.
-use Rattle.std.specs.Prelude.{ℕ, ◌+◌, Bool, true, false, cond, ◌&&◌, List, [], ◌∷◌, length, Some, None, Option, nat_le}
+use Rattle.std.specs.Prelude.{ℕ, ◌+◌, cond, List, [], ◌∷◌, length, Some, None, Option, nat_le}
 use Rattle.model.specs.Answers.{Answer, accepted, refused}
 use Rattle.model.specs.Faults.{layer_number}
 use Rattle.tapes.specs.declared.order.Order.{Order}

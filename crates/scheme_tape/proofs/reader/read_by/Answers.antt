@@ -1,10 +1,10 @@
-use Rattle.std.proofs.Common.{◌≡◌, ℕ, ◌+◌, ◌<◌, ◌≤◌, length, None, sym, refl, ap, ◌∙◌, subst, arith}
+use Rattle.std.proofs.Common.{◌≡◌, ℕ, ◌+◌, ◌<◌, ◌≤◌, length, None, sym, ap, ◌∙◌, subst, arith}
 use Rattle.std.proofs.lemmas.Result.{err_from_is_err_and}
 use Rattle.model.specs.Answers.{unless}
 use Rattle.scheme_tape.specs.Reading.{SchemeRead}
 use Rattle.scheme_tape.specs.Said.{said, broken_order, extended_order}
 use Rattle.scheme_tape.specs.Views.{draft_of}
-use Rattle.scheme_tape.proofs.Exits.{too_long, Short, short_enough, within, refused_no_order, Found, found, refused_order, not_broken, ended}
+use Rattle.scheme_tape.proofs.Exits.{too_long, short_enough, within, refused_no_order, found, refused_order, not_broken, ended}
 use Rattle.scheme_tape.proofs.Loop.{SoFar, at_start, one_more}
 use Rattle.scheme_tape.proofs.reader.read_by.Goals as goal
 

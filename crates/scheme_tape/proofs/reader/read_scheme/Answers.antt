@@ -1,4 +1,4 @@
-use Rattle.std.proofs.Common.{sym, subst}
+use Rattle.std.proofs.Common.{subst}
 use Rattle.model.specs.Answers.{answer}
 use Rattle.scheme.specs.Views.{commands_of}
 use Rattle.scheme_tape.specs.Reading.{SchemeRead}

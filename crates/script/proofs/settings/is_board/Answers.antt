@@ -10,7 +10,7 @@ pub returns-in-Some : goal.returns-in-Some
 returns-in-Some c =
     let alone = c.in-Some.ensures in
     let same : Decides c.eq.result (c.in-Some.word.now ≡ codes "board") =
-      subst (λ w. Decides c.eq.result (c.in-Some.word.now ≡ w)) c.as_slice.ensures (slice_eq-Decides Decides-eqb _ _ _ c.eq.ensures)
+    subst (λ w. Decides c.eq.result (c.in-Some.word.now ≡ w)) c.as_slice.ensures (slice_eq-Decides Decides-eqb _ _ _ c.eq.ensures)
     in
     Decides-like _ (λ is. subst (Alone c.args.rest.now) is alone) (one_alone alone) same
 

@@ -1,4 +1,4 @@
-use Rattle.std.proofs.Common.{◌≡◌, ◌<◌, true, ◌&&◌, length, sym, ap, ◌∙◌, subst, arith}
+use Rattle.std.proofs.Common.{◌≡◌, ◌<◌, true, ◌&&◌, length, sym, arith}
 use Rattle.model.specs.Bounded.{listed}
 use Rattle.scheme.specs.Steps.{step_row_declared, well_placed}
 use Rattle.scheme.proofs.Growing.{pushed, steps_grow}

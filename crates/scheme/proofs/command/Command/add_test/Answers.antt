@@ -1,4 +1,4 @@
-use Rattle.std.proofs.Common.{◌≡◌, ◌<◌, length, sym, ap, ◌∙◌, subst, arith}
+use Rattle.std.proofs.Common.{◌≡◌, ◌<◌, length, sym, arith}
 use Rattle.model.specs.Bounded.{listed}
 use Rattle.scheme.proofs.Growing.{pushed, tests_grow, no_steps_yet}
 use Rattle.scheme.proofs.command.Command.add_test.Goals as goal

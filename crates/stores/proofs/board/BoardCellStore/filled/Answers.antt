@@ -1,4 +1,4 @@
-use Rattle.std.proofs.Common.{◌≡◌, ℕ, ◌+◌, ◌*◌, ◌≤◌, sym, arith}
+use Rattle.std.proofs.Common.{ℕ, ◌+◌, ◌*◌, ◌≤◌, sym, arith}
 use Rattle.stores.specs.Boards.{board_cells}
 use Rattle.stores.specs.Matrices.{on_names, row_count}
 use Rattle.stores.proofs.Counting.{sum_none, sum_step, sum_fits, row_bound}

@@ -1,6 +1,6 @@
-use Rattle.std.proofs.Common.{◌≡◌, ℕ, ◌+◌, ◌*◌, ◌<◌, true, cond, ◌&&◌, length, set, sym, refl, ap, ◌∙◌, arith}
-use Rattle.stores.specs.Boards.{fits_board, board_cells, board_limit}
-use Rattle.stores.specs.Matrices.{on_names, takes}
+use Rattle.std.proofs.Common.{◌≡◌, ◌+◌, ◌*◌, ◌<◌, cond, length, sym, refl, ap, arith}
+use Rattle.stores.specs.Boards.{board_cells}
+use Rattle.stores.specs.Matrices.{on_names}
 use Rattle.stores.proofs.Placing.{whole, same_fit, place_written, board_takes}
 use Rattle.stores.proofs.board.BoardCellStore.write.Goals as goal
 

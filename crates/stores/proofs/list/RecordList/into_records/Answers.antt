@@ -1,4 +1,4 @@
-use Rattle.std.proofs.Common.{◌≡◌, ℕ, take, sym, refl, subst}
+use Rattle.std.proofs.Common.{ℕ, take, sym, refl, subst}
 use Rattle.stores.specs.Matrices.{on_names}
 use Rattle.stores.specs.RecordLists.{records_of, list_cells}
 use Rattle.stores.specs.Records.{Lists}

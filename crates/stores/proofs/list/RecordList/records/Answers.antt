@@ -2,7 +2,7 @@ use Rattle.std.proofs.Common.{◌≡◌, ◌-◌, List, take, sym, refl, subst}
 use native.Mathlib.Nat.{sub-zero}
 use Rattle.stores.specs.declared.record.Record.{Record}
 use Rattle.stores.specs.Matrices.{on_names}
-use Rattle.stores.specs.RecordLists.{records_of, in_use, list_cells}
+use Rattle.stores.specs.RecordLists.{in_use, list_cells}
 use Rattle.stores.specs.Records.{Lists}
 use Rattle.stores.proofs.Holding.{exact}
 use Rattle.stores.proofs.list.RecordList.records.Goals as goal

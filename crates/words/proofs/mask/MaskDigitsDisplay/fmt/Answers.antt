@@ -1,4 +1,4 @@
-use Rattle.std.proofs.Common.{◌≡◌, ℕ, ◌+◌, ◌/◌, ◌%◌, ◌<◌, cond, ltb, List, [], ◌∷◌, ◌++◌, sym, refl, ap, ◌∙◌, subst, arith}
+use Rattle.std.proofs.Common.{◌≡◌, ℕ, ◌+◌, ◌/◌, ◌%◌, ◌<◌, ltb, List, [], ◌∷◌, ◌++◌, refl, ap, ◌∙◌, subst, arith}
 use lib.Utf8.{encode}
 use Rattle.std.specs.Fmt.{WritesOnOk}
 use Rattle.std.proofs.lemmas.Str.Ascii.{encode_ascii}

@@ -1,5 +1,5 @@
-use Rattle.std.proofs.Common.{◌≡◌, ℕ, ◌<◌, true, ltb, sym, refl, ap, ◌∙◌, arith}
-use Rattle.stores.specs.Matrices.{Matrix, on_names, written, count, takes}
+use Rattle.std.proofs.Common.{◌≡◌, ℕ, ◌<◌, ltb, sym, refl, ap, ◌∙◌, arith}
+use Rattle.stores.specs.Matrices.{Matrix, on_names, written}
 use Rattle.stores.specs.RecordLists.{records_of, list_cells, list_limit}
 use Rattle.stores.specs.Records.{at}
 use Rattle.stores.proofs.Holding.{exact, kept_or_exact, used_is_count, cell_present, cell_absent}
