@@ -4,6 +4,6 @@
 #[cfg(test)]
 mod refusals;
 #[cfg(test)]
-mod tapes;
+mod samples;
 #[cfg(test)]
 mod vocabulary;

@@ -1,5 +1,5 @@
 // Each refusal of the scheme tape at its place, at least two ways, and what is accepted beside it.
-use crate::tapes::{SMALL_KIOSK, read, repeated, verdict};
+use crate::samples::{SMALL_KIOSK, read, repeated, verdict};
 use scheme::step::Step;
 use scheme::test::Test;
 use std::test::Fail;

@@ -4,6 +4,6 @@
 #[cfg(test)]
 mod boards;
 #[cfg(test)]
-mod lists;
+mod either;
 #[cfg(test)]
-mod stores;
+mod lists;
