@@ -7,8 +7,6 @@ ghost use Rattle.script.specs.Keywords.{spelling};
 pub(crate) enum Keyword {
     Scheme,
     List,
-    Store,
-    Filter,
 }
 
 pub(crate) fn find_keyword(word: &[u8]) -> Option<Keyword>
@@ -18,10 +16,6 @@ pub(crate) fn find_keyword(word: &[u8]) -> Option<Keyword>
         Some(Keyword::Scheme)
     } else if word == b"list".as_slice() {
         Some(Keyword::List)
-    } else if word == b"store".as_slice() {
-        Some(Keyword::Store)
-    } else if word == b"filter".as_slice() {
-        Some(Keyword::Filter)
     } else {
         None
     }

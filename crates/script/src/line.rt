@@ -5,7 +5,6 @@ ghost use Rattle.script.specs.Finds.{Finds};
 
 use crate::hex::read_hex;
 use crate::keyword::{Keyword, find_keyword};
-use crate::settings::{filter_parts, is_board, list_size};
 use crate::words::{only_blanks, past_blanks, split_word};
 use std::alloc::{AllocError, Global};
 
@@ -16,12 +15,6 @@ pub enum Line {
     // The tape of a new scheme.
     Scheme(Vec<u8>),
     List,
-    // Cells are to be kept on a board.
-    StoreBoard,
-    // Cells are to be kept in a list of so many records.
-    StoreList(u32),
-    // The attribute of a filter, and the mask of the rights that it concerns.
-    Filter(u8, u16),
     Unreadable,
 }
 
@@ -46,27 +39,6 @@ fn read_list(rest: &[u8]) -> Line
     }
 }
 
-fn read_store(rest: &[u8]) -> Line
-    ensures { Finds (Asks Keyword.Store rest.now) (call_of result) }
-{
-    if is_board(rest) {
-        return Line::StoreBoard;
-    }
-    match list_size(rest) {
-        Some(size) => Line::StoreList(size),
-        None => Line::Unreadable,
-    }
-}
-
-fn read_filter(rest: &[u8]) -> Line
-    ensures { Finds (Asks Keyword.Filter rest.now) (call_of result) }
-{
-    match filter_parts(rest) {
-        Some((attribute, mask)) => Line::Filter(attribute, mask),
-        None => Line::Unreadable,
-    }
-}
-
 // What a keyword asks for with `rest` after it.
 fn read_call(heap: Global, key: Keyword, rest: &[u8]) -> Result<Line, AllocError>
     ensures asked { IfOk result (λ l. Finds (Asks key rest.now) (call_of l)) }
@@ -75,8 +47,6 @@ fn read_call(heap: Global, key: Keyword, rest: &[u8]) -> Result<Line, AllocError
     match key {
         Keyword::Scheme => read_scheme(heap, rest),
         Keyword::List => Ok(read_list(rest)),
-        Keyword::Store => Ok(read_store(rest)),
-        Keyword::Filter => Ok(read_filter(rest)),
     }
 }
 

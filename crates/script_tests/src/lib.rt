@@ -13,9 +13,6 @@ mod tests {
             Line::Nothing => Ok("nothing"),
             Line::Scheme(_) => Ok("scheme"),
             Line::List => Ok("list"),
-            Line::StoreBoard => Ok("board"),
-            Line::StoreList(_) => Ok("records"),
-            Line::Filter(_, _) => Ok("filter"),
             Line::Unreadable => Ok("unreadable"),
         }
     }
@@ -23,20 +20,6 @@ mod tests {
     fn is_scheme(heap: Global, line: &[u8], tape: &[u8]) -> Result<bool, AllocError> {
         match read_line(heap, line)? {
             Line::Scheme(bytes) => Ok(bytes.as_slice() == tape),
-            _ => Ok(false),
-        }
-    }
-
-    fn is_sized(heap: Global, line: &str, size: u32) -> Result<bool, AllocError> {
-        match read_line(heap, line.as_bytes())? {
-            Line::StoreList(n) => Ok(n == size),
-            _ => Ok(false),
-        }
-    }
-
-    fn is_filter(heap: Global, line: &str, attribute: u8, mask: u16) -> Result<bool, AllocError> {
-        match read_line(heap, line.as_bytes())? {
-            Line::Filter(k, m) => Ok(k == attribute && m == mask),
             _ => Ok(false),
         }
     }
@@ -95,71 +78,6 @@ mod tests {
                 "scheme 101",
                 "scheme 1g",
                 "scheme 10 # ten",
-            ],
-        )
-    }
-
-    #[test]
-    fn stores(rt: HostRuntime) -> Result<(), Fail> {
-        let heap = rt.alloc();
-        all_are(&rt, heap, "board", &["store board", "\tstore \t board \r"])?;
-        for (line, size) in [
-            ("store list 0", 0),
-            ("store\tlist  007\t", 7),
-            ("store list 999999", 999_999),
-            ("store list 0000000000000000000000000000000000000012", 12),
-        ] {
-            assert!(rt; is_sized(heap, line, size)?);
-        }
-        Ok(())
-    }
-
-    #[test]
-    fn filters(rt: HostRuntime) -> Result<(), Fail> {
-        let heap = rt.alloc();
-        for (line, attribute, mask) in [
-            ("filter 0 FFFF", 0, 0xFFFF),
-            ("filter 4 01aB", 4, 0x01AB),
-            ("\tfilter\t0255 \t c00d\r", 255, 0xC00D),
-        ] {
-            assert!(rt; is_filter(heap, line, attribute, mask)?);
-        }
-        Ok(())
-    }
-
-    #[test]
-    fn settings_that_cannot_be_read(rt: HostRuntime) -> Result<(), Fail> {
-        let heap = rt.alloc();
-        all_are(
-            &rt,
-            heap,
-            "unreadable",
-            &[
-                "store",
-                "store tray",
-                "store board x",
-                "store list",
-                "store list 1000000",
-                "store list 1234567890123456789012345678901234567890",
-                "store list 1 2",
-                "store list -1",
-                "store list 1a",
-            ],
-        )?;
-        all_are(
-            &rt,
-            heap,
-            "unreadable",
-            &[
-                "filter",
-                "filter 0",
-                "filter 256 0000",
-                "filter A 0000",
-                "filter 0 FFF",
-                "filter 0 FF FF",
-                "filter 0 FFFFF",
-                "filter 0 FFFG",
-                "filter 0 FFFF 0",
             ],
         )
     }

@@ -1,9 +1,9 @@
-use Rattle.std.proofs.Common.{vec_items, subst}
+use Rattle.std.proofs.Common.{vec_items, refl, subst}
 use Rattle.std.specs.Option.{option_map}
 use Rattle.script.specs.Calls.{asks_scheme}
 use Rattle.script.specs.Finds.{Finds}
 use Rattle.script.specs.Hex.{Spells}
-use Rattle.script.proofs.Saying.{asked}
+use Rattle.script.proofs.Saying.{scheme_asks}
 use Rattle.script.proofs.line.read_scheme.Goals as goal
 
 pub returns-in-Some : goal.returns-in-Some
@@ -14,4 +14,4 @@ returns-in-Some c =
 pub returns-in-None : goal.returns-in-None
 returns-in-None c =
     let none = subst (λ o. Finds (Spells c.args.rest.now) (option_map vec_items o)) c.in-None.is c.in_ok-tape.ensures.spelt in
-    record { asked = λ call a. let spelt = asked a in none spelt.0 spelt.1; memory = tt }
+    record { asked = λ call a. let spelt = scheme_asks a refl in none spelt.0 spelt.1; memory = tt }
