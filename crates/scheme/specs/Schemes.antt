@@ -1,4 +1,4 @@
--- A scheme is a list of commands; this says which are well_formed.
+-- A scheme is a list of commands; this says which are well-formed.
 use Rattle.std.specs.Prelude.{Bool, ◌&&◌, List, [], length, nat_le}
 use Rattle.model.specs.declared.counts.Counts.{Counts}
 use Rattle.scheme.specs.Commands.{Command, test_fits, step_fits, begin_in_range}
@@ -18,6 +18,6 @@ well_formed_command c m =
     && (each_after (step_fits m.params m.cards m.tests) [] m.steps
     && all (step_valued c) m.steps)))))
 
--- at most sixteen commands, each well_formed
+-- at most sixteen commands, each well-formed
 abbrev pub well_formed : Counts → List Command → Bool
 well_formed c commands = nat_le (length commands) 16 && all (well_formed_command c) commands

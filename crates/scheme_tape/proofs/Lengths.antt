@@ -1,4 +1,4 @@
--- The encoding of a well_formed scheme is far shorter than the longest tape.
+-- The encoding of a well-formed scheme is far shorter than the longest tape.
 use Rattle.std.proofs.Common.{◌≡◌, ℕ, ◌*◌, ◌≤◌, true, List, [], ◌∷◌, ◌++◌, length, ap, mul-suc, arith}
 use Rattle.std.proofs.lemmas.List.{length-append}
 use Rattle.std.proofs.lemmas.Bool.{and_parts, leb-true}

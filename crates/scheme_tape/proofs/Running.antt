@@ -1,4 +1,4 @@
--- The orders of a well_formed scheme, one after the other, break no rule.
+-- The orders of a well-formed scheme, one after the other, break no rule.
 use Rattle.std.proofs.Common.{◌≡◌, ℕ, ◌+◌, ◌<◌, ◌≤◌, true, leb, List, [], ◌∷◌, ◌++◌, map, length, Some, None, sym, refl, ap, ◌∙◌, subst, append_assoc, append-nil, arith}
 use Rattle.std.proofs.lemmas.List.{length_push}
 use Rattle.std.proofs.lemmas.Bool.{and_parts, and_from, leb-true, lt-leb, not_from_true}
@@ -94,7 +94,7 @@ scheme_codes c (m ∷ commands) =
     ∙ ap (λ l. l ++ codes (scheme_grammar c) (flat_map orders_of commands)) (command_codes c m)
     ∙ ap (λ l. encode_command m ++ l) (scheme_codes c commands)
 
--- so the encoding of a well_formed scheme is read whole, as that scheme
+-- so the encoding of a well-formed scheme is read whole, as that scheme
 pub encoding_whole : (c : Counts) (tape : List ℕ) (commands : List Command) → tape ≡ encode commands → well_formed c commands ≡ true → Whole (scheme_grammar c) tape (record { finished = commands; current = None })
 encoding_whole c tape commands is formed =
     let parts = and_parts _ _ formed in

@@ -1,4 +1,4 @@
--- Orders that break no rule write a well_formed scheme, and their bytes are its encoding.
+-- Orders that break no rule write a well-formed scheme, and their bytes are its encoding.
 use Rattle.std.proofs.Common.{◌≡◌, ℕ, ◌<◌, ◌≤◌, Bool, true, false, cond, leb, List, [], ◌∷◌, ◌++◌, length, Some, None, Option, sym, refl, ap, ◌∙◌, append_assoc, append-nil, arith}
 use Rattle.std.proofs.lemmas.List.{length_push, nil_from_length}
 use Rattle.std.proofs.lemmas.Bool.{and_parts, and_from, le-leb, leb-true, leb-false, ltb-false, not-false}
@@ -36,7 +36,7 @@ pub from_unbroken : (rules : List (ℕ × Bool)) → Unbroken rules → lowest r
 from_unbroken [] u = refl
 from_unbroken (rule ∷ rules) u = ap (λ b. cond b (Some rule.0) (lowest rules)) u.0 ∙ from_unbroken rules u.1
 
--- the parts of a well_formed command
+-- the parts of a well-formed command
 pub record Good (c : Counts) (m : Command) : Type 0 where
   pub ranged : begin_in_range m.params m.cards ≡ true
   pub few_tests : length m.tests ≤ 16
@@ -86,7 +86,7 @@ encode_current (Some m) = encode_begun m
 abbrev pub encode_draft : Draft → List ℕ
 encode_draft d = encode d.finished ++ encode_current d.current
 
--- what is being written is well_formed so far, and there is room for it
+-- what is being written is well-formed so far, and there is room for it
 abbrev Current : Counts → (finished : List Command) → Option Command → Type 0
 Current c finished None = Unit {0}
 Current c finished (Some m) = (length finished < 16) × Good c m
@@ -242,7 +242,7 @@ sound_run c {d} {e} (then {i = i} {is = is} ok more) sound =
 sound_start : (c : Counts) → Sound c empty_draft
 sound_start c = record { few = omega arith; formed = refl; current = tt }
 
--- a tape that is read whole is the encoding of well_formed commands
+-- a tape that is read whole is the encoding of well-formed commands
 pub whole_encodes : (c : Counts) (tape : List ℕ) (finished : List Command) → Whole (scheme_grammar c) tape (record { finished = finished; current = None }) → (tape ≡ encode finished) × (well_formed c finished ≡ true)
 whole_encodes c tape finished w =
     let run = sound_run c w.lawful (sound_start c) in (

@@ -8,13 +8,13 @@ use Rattle.tapes.specs.Grammars.{Refused}
 use Rattle.scheme_tape.specs.Drafts.{scheme_grammar}
 use Rattle.scheme_tape.specs.Encoding.{encode}
 
--- Accepted: the tape is the encoding of these commands, and they are well_formed. Refused, in layer 1: for its length, or
+-- Accepted: the tape is the encoding of these commands, and they are well-formed. Refused, in layer 1: for its length, or
 -- at the first order (or the end) that breaks a rule, by the lowest rule that is broken there.
 abbrev pub SchemeRead : Counts → List ℕ → Answer (List Command) → Type 0
 SchemeRead c tape (accepted commands) = (tape ≡ encode commands) × (well_formed c commands ≡ true)
 SchemeRead c tape (refused layer number place) = (layer ≡ 1) × Refused (scheme_grammar c) tape number place
 
--- A tape is accepted exactly if it is the encoding of well_formed commands, and then with these.
+-- A tape is accepted exactly if it is the encoding of well-formed commands, and then with these.
 abbrev pub AcceptedExactly : Counts → List ℕ → Answer (List Command) → Type 0
 AcceptedExactly c tape answer =
     (commands : List Command)
