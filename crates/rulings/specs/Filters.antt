@@ -25,5 +25,5 @@ abbrev pub filter_by : {S R : Type 0} → (attribute rights : ℕ) → (below : 
 filter_by attribute rights below = record { attribute = attribute; rights = rights; below = below; scale = record {} }
 
 -- A filter says yes if the ruling below does and the question passes.
-abbrev pub filter_says : {S R : Type 0} → (covers : ℕ → ℕ → Bool) → (below-says : R → Question → Bool) → AttributeFilter S R → Question → Bool
-filter_says covers below-says f q = below-says f.below q && passes covers f.attribute f.rights q
+abbrev pub filter_says : {S R : Type 0} → (covers : ℕ → ℕ → Bool) → (below_says : R → Question → Bool) → AttributeFilter S R → Question → Bool
+filter_says covers below_says f q = below_says f.below q && passes covers f.attribute f.rights q
