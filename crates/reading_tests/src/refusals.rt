@@ -42,7 +42,7 @@ fn little_is_enough(rt: HostRuntime) {
     assert_eq!(rt;
         verdict(&[
             0x10, 1, 1, 0x20, 15, 0, 0, 0x23, 0, 3, 0, 0x30, 0, 0, 0, 0x1F,
-        ],),
+        ]),
         0
     );
     // Null may be compared with.

@@ -84,15 +84,8 @@ mod tests {
 
     #[test]
     fn hex_alone(rt: HostRuntime) -> Result<(), Fail> {
-        match read_hex(rt.alloc(), b" 00\r7E ")? {
-            Some(bytes) => {
-                assert!(rt; bytes.as_slice() == [0, 126].as_slice());
-                Ok(())
-            },
-            None => {
-                assert!(rt; false);
-                Ok(())
-            },
-        }
+        let bytes = read_hex(rt.alloc(), b" 00\r7E ")?.ok_or("two bytes are spelt")?;
+        assert!(rt; bytes.as_slice() == [0, 126].as_slice());
+        Ok(())
     }
 }

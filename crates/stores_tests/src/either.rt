@@ -15,7 +15,7 @@ fn ends_are_empty<S: CellStore>(rt: &impl Abort, store: &S) {
 }
 
 // Over an empty store with room for at least two cells.
-fn keeps_cells<S: CellStore>(rt: &impl Abort, store: &mut S) -> Result<(), Fail> {
+fn keeps_cells<S: CellStore>(rt: &impl Abort, store: &mut S) {
     let limit = store.limit();
     assert!(rt; store.filled() == 0);
     assert!(rt; store.write(63, 63, 0x8001));
@@ -33,7 +33,6 @@ fn keeps_cells<S: CellStore>(rt: &impl Abort, store: &mut S) -> Result<(), Fail>
     assert!(rt; store.filled() == 2);
     store.clear();
     assert!(rt; store.filled() == 0 && store.read(63, 63) == 0 && store.limit() == limit);
-    Ok(())
 }
 
 #[test]
@@ -41,8 +40,9 @@ fn board(rt: HostRuntime) -> Result<(), Fail> {
     let mut memory = [7; 4096];
     match Board::new(&mut memory) {
         Ok(mut board) => keeps_cells(&rt, &mut board),
-        Err(_) => Err(Fail::new("4096 masks are a board")),
+        Err(_) => return Err(Fail::new("4096 masks are a board")),
     }
+    Ok(())
 }
 
 #[test]
@@ -55,6 +55,7 @@ fn list(rt: HostRuntime) -> Result<(), Fail> {
     let records = vec![in rt.alloc(); record; 2]?;
     match RecordList::new(records) {
         Ok(mut list) => keeps_cells(&rt, &mut list),
-        Err(_) => Err(Fail::new("two records are a list")),
+        Err(_) => return Err(Fail::new("two records are a list")),
     }
+    Ok(())
 }
