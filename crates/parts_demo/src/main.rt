@@ -12,14 +12,18 @@ use std::io;
 use stores::board::{Board, CELLS};
 use stores::list::RecordList;
 use stores::record::Record;
+use stores::store::CellStore;
+use stores::unfit::Unfit;
 use words::InWords;
 use writes::show_store;
 
-fn show_board(rt: &HostRuntime, memory: &mut [Mask]) -> io::Result<()> {
-    let masks = memory.len();
-    println!(rt; "a board over {masks} masks:")?;
-    match Board::new(memory) {
-        Ok(mut board) => show_store(rt, &mut board),
+// The writes to a store that was made, or why it was not.
+fn show_made<S: CellStore + Drop, M: Drop>(
+    rt: &HostRuntime,
+    made: Result<S, Unfit<M>>,
+) -> io::Result<()> {
+    match made {
+        Ok(mut store) => show_store(rt, &mut store),
         Err(unfit) => {
             let fault = InWords(unfit.fault);
             println!(rt; "  {fault}")
@@ -27,16 +31,16 @@ fn show_board(rt: &HostRuntime, memory: &mut [Mask]) -> io::Result<()> {
     }
 }
 
+fn show_board(rt: &HostRuntime, memory: &mut [Mask]) -> io::Result<()> {
+    let masks = memory.len();
+    println!(rt; "a board over {masks} masks:")?;
+    show_made(rt, Board::new(memory))
+}
+
 fn show_list(rt: &HostRuntime, records: Vec<Record>) -> io::Result<()> {
     let count = records.len();
     println!(rt; "a list of {count} records:")?;
-    match RecordList::new(records) {
-        Ok(mut list) => show_store(rt, &mut list),
-        Err(unfit) => {
-            let fault = InWords(unfit.fault);
-            println!(rt; "  {fault}")
-        }
-    }
+    show_made(rt, RecordList::new(records))
 }
 
 fn run(rt: &HostRuntime) -> io::Result<()> {

@@ -30,7 +30,7 @@ pub(crate) fn show_store<S: CellStore>(rt: &HostRuntime, store: &mut S) -> io::R
     let limit = store.limit();
     println!(rt; "  at most {limit} cells that are not empty")?;
     for (row, column, mask) in WRITES {
-        let taken = yes_or_no(store.write(row, column, mask));
+        let taken = yes_or_no(store.write(row, column, mask).is_ok());
         let written = MaskDigits(mask);
         let held = MaskDigits(store.read(row, column));
         let filled = store.filled();

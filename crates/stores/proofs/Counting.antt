@@ -1,20 +1,25 @@
 -- How many cells are not empty, and what a write makes of that.
-use Rattle.std.proofs.Common.{◌≡◌, ℕ, zero, suc, ◌+◌, ◌*◌, ◌<◌, ◌≤◌, Bool, true, false, sym, refl, ap, ◌∙◌, ⊎_elim, not-suc-le-zero, add-mul, zero-mul, add-one, arith}
+use Rattle.std.proofs.Common.{◌≡◌, ℕ, zero, suc, ◌+◌, ◌*◌, ◌<◌, ◌≤◌, Bool, true, false, sym, refl, ap, ◌∙◌, subst, ⊎_elim, not-suc-le-zero, add-mul, zero-mul, zero-add, add-one, arith}
+use Rattle.std.specs.List.{sum_by, range_with_len}
 use Rattle.std.proofs.lemmas.Bool.{cases_eq}
+use Rattle.std.proofs.lemmas.List.FromFn.{sum_by-map-range_with_len_more}
+use mathlib.Core.List.{map, map-id}
 use Rattle.stores.specs.Matrices.{Matrix, blank, on_names, written, some, one_if, sum_below, row_count, count}
 use Rattle.stores.proofs.Writing.{written_here, written_row, written_column, at_names}
-
-pub sum_none : (f : ℕ → ℕ) → sum_below f 0 ≡ 0
-unfolding sum_below
-sum_none f = refl
 
 pub sum_more : (f : ℕ → ℕ) (n : ℕ) → sum_below f (n + 1) ≡ sum_below f n + f n
 unfolding sum_below
 sum_more f n = rw add-one refl
 
--- one more turn of a loop that sums
-pub sum_step : (f : ℕ → ℕ) (n total x : ℕ) → total ≡ sum_below f n → x ≡ f n → total + x ≡ sum_below f (n + 1)
-sum_step f n total x so_far here = rw (so_far, here) (sym (sum_more f n))
+-- a sum over a range of numbers from 0 on
+pub sum_range : (f : ℕ → ℕ) (n : ℕ) → sum_by f (range_with_len 0 n) ≡ sum_below f n
+unfolding sum_below
+sum_range f zero = refl
+sum_range f (suc n) =
+    let more : sum_by f (map (λ k. k) (range_with_len 0 (n + 1))) ≡ sum_by f (map (λ k. k) (range_with_len 0 n)) + f n =
+    sum_by-map-range_with_len_more f (λ k. k) 0 n n (zero-add n) in
+    subst (λ k. sum_by f (range_with_len 0 k) ≡ sum_below f k) (add-one n)
+    (simp map-id at more ∙ (ap (λ s. s + f n) (sum_range f n) ∙ sym (sum_more f n)))
 
 -- a sum looks only below its end
 pub sum_same : (f g : ℕ → ℕ) (n : ℕ) → ((k : ℕ) → k < n → f k ≡ g k) → sum_below f n ≡ sum_below g n
@@ -32,12 +37,6 @@ sum_bound f most (suc n) h =
     let rest : sum_below f n ≤ n * most = sum_bound f most n h in
     let here : f n ≤ most = h n in
     rw (← add-one) (rw add-mul (omega arith))
-
--- such a loop's next sum is small where its turns are few and each adds little
-pub sum_fits : (f : ℕ → ℕ) (most n total x : ℕ) → ((k : ℕ) → f k ≤ most) → total ≡ sum_below f n → x ≡ f n → total + x ≤ (n + 1) * most
-sum_fits f most n total x each so_far here =
-    let bound = sum_bound f most (n + 1) each in
-    rw (sum_step f n total x so_far here) bound
 
 -- two that differ at one place only
 pub sum_change : (f g : ℕ → ℕ) (i n : ℕ) → i < n → ((k : ℕ) → (k ≡ i → ⊥) → f k ≡ g k) → sum_below f n + g i ≡ sum_below g n + f i

@@ -1,18 +1,11 @@
--- The three edits of a list of records: another mask in a record, one record more, one record less.
+-- What two edits of a list of records make of its cells: another mask in a record, and one record less.
 use Rattle.std.proofs.Common.{◌≡◌, ℕ, suc, ◌<◌, ◌≤◌, List, length, set, sym, refl, ap, ◌∙◌, subst, ⊎_elim, arith, length-set, get_or-set_other, get_or-set_same}
-use lib.Seq.{take-set-le}
 use Rattle.std.proofs.lemmas.Bool.{cases_eq}
 use Rattle.stores.specs.declared.record.Record.{Record}
 use Rattle.stores.specs.Matrices.{written, on_names}
-use Rattle.stores.specs.Records.{no_record, at, Of, put, matrix_of, Full, Apart, Absent}
-use Rattle.stores.proofs.Listing.{first, first_more, beside, of_absent, of_cell, apart_both, same_cell}
-use Rattle.stores.proofs.Writing.{written_here, written_by}
-
--- What an edit leaves: records as they should be, and one cell written.
-pub record Edited (xs : List Record) (n : ℕ) (ys : List Record) (k s o m : ℕ) : Type 0 where
-  pub full : Full ys k
-  pub apart : Apart ys k
-  pub cells : on_names (first ys k) ≡ written (on_names (first xs n)) s o m
+use Rattle.stores.specs.Records.{no_record, at, Of, Full, Apart, Absent}
+use Rattle.stores.proofs.Listing.{first, of_absent, of_cell, apart_both, same_cell}
+use Rattle.stores.proofs.Writing.{written_by}
 
 -- at one place, and at another
 at_same : (xs : List Record) (i : ℕ) (r : Record) → i < length xs → at (set xs i r) i ≡ r
@@ -29,11 +22,8 @@ each_set P xs n i r h here others j lt =
     (λ (other : j ≡ i → ⊥). subst P (sym (at_other xs i j r other)) (others j lt other))
     (cases_eq j i)
 
-abbrev Whole : Record → Type 0
-Whole r = (r.row < 64) × (r.column < 64) × (0 < r.mask)
-
 -- Another mask in the record at i.
-module _ (xs : List Record) (n i m : ℕ) (long : n ≤ length xs) (full : Full xs n) (apart : Apart xs n) (lt : i < n) (some : 0 < m) where
+module _ (xs : List Record) (n i m : ℕ) (long : n ≤ length xs) (full : Full xs n) (apart : Apart xs n) (lt : i < n) where
   abbrev changed : Record
   changed = record { row = (at xs i).row; column = (at xs i).column; mask = m }
 
@@ -67,55 +57,14 @@ module _ (xs : List Record) (n i m : ℕ) (long : n ≤ length xs) (full : Full 
       let right = same_of b (at ys a).row (at ys a).column of in
       apart a b ab bn (right.0 ∙ sym left.0, right.1 ∙ sym left.1)
 
-  pub mask_changed : Edited xs n ys n (at xs i).row (at xs i).column m
-  mask_changed = record {
-    full = each_set Whole xs n i changed inside ((full i lt).0, (full i lt).1, some) (λ j h _. full j h);
-    apart = apart_ys;
-    cells = written_by (first xs n) (first ys n) (at xs i).row (at xs i).column m (full i lt).0 (full i lt).1
-        (of_cell ys n i _ _ long_ys apart_ys lt (of_same i _ _ (refl, refl)) ∙ ap (λ r. r.mask) (at_same xs i changed inside))
-        (λ a b _ _ other.
-        same_cell xs ys n n a b long long_ys apart apart_ys
-        (λ j h of. (j, h, at_other xs i j changed (λ same. other (rw same at (sym of.0), rw same at (sym of.1)))))
-        (λ none j h of. none j h (same_of j a b of)));
-  }
-
--- One record more, of a cell that no other is of.
-module _ (xs : List Record) (n : ℕ) (r : Record) (room : n < length xs) (full : Full xs n) (apart : Apart xs n) (whole : Whole r) (none : Absent xs n r.row r.column) where
-  abbrev zs : List Record
-  zs = set xs n r
-
-  long_zs : suc n ≤ length zs
-  long_zs = rw (length-set xs n r) room
-
-  apart_zs : Apart zs (suc n)
-  apart_zs a b ab bn of =
-      let before : at zs a ≡ at xs a = at_other xs n a r (omega arith) in
-      let of-a : Of (at zs b) (at xs a).row (at xs a).column = subst (λ q. Of (at zs b) q.row q.column) before of in
-      ⊎_elim
-      (λ (same : b ≡ n).
-      let here : at zs b ≡ r = ap (at zs) same ∙ at_same xs n r room in
-      let of-r : Of r (at xs a).row (at xs a).column = subst (λ q. Of q (at xs a).row (at xs a).column) here of-a in
-      none a (omega arith) (sym of-r.0, sym of-r.1))
-      (λ (other : b ≡ n → ⊥).
-      apart a b ab (omega (arith, other)) (subst (λ q. Of q (at xs a).row (at xs a).column) (at_other xs n b r other) of-a))
-      (cases_eq b n)
-
-  first_zs : first zs (suc n) ≡ put (first xs n) r
-  first_zs =
-      first_more zs n long_zs
-      ∙ (ap (λ q. put (first zs n) q) (at_same xs n r room)
-      ∙ ap (λ qs. put (matrix_of qs) r) (take-set-le n xs n r (omega arith)))
-
-  pub record_added : Edited xs n zs (suc n) r.row r.column r.mask
-  record_added = record {
-    full = each_set Whole xs (suc n) n r room whole (λ j h other. full j (omega (arith, other)));
-    apart = apart_zs;
-    cells =
-        ap on_names first_zs
-        ∙ written_by (first xs n) (put (first xs n) r) r.row r.column r.mask whole.0 whole.1
-        (written_here (first xs n) r.row r.column r.mask)
-        (λ a b _ _ other. beside (first xs n) r a b (λ of. other (sym of.0, sym of.1)));
-  }
+  pub mask_changed : on_names (first ys n) ≡ written (on_names (first xs n)) (at xs i).row (at xs i).column m
+  mask_changed =
+      written_by (first xs n) (first ys n) (at xs i).row (at xs i).column m (full i lt).0 (full i lt).1
+      (of_cell ys n i _ _ long_ys apart_ys lt (of_same i _ _ (refl, refl)) ∙ ap (λ r. r.mask) (at_same xs i changed inside))
+      (λ a b _ _ other.
+      same_cell xs ys n n a b long long_ys apart apart_ys
+      (λ j h of. (j, h, at_other xs i j changed (λ same. other (rw same at (sym of.0), rw same at (sym of.1)))))
+      (λ none j h of. none j h (same_of j a b of)))
 
 -- One record less: the last takes its place.
 module _ (xs : List Record) (k i : ℕ) (long : suc k ≤ length xs) (full : Full xs (suc k)) (apart : Apart xs (suc k)) (lt : i < suc k) where
@@ -160,19 +109,16 @@ module _ (xs : List Record) (k i : ℕ) (long : suc k ≤ length xs) (full : Ful
       (subst (λ q. Of q (at xs i).row (at xs i).column) (at_other xs i j (at xs k) other) of))
       (cases_eq j i)
 
-  pub record_removed : Edited xs (suc k) ws k (at xs i).row (at xs i).column 0
-  record_removed = record {
-    full = each_set Whole xs k i (at xs k) within (full k (omega arith)) (λ j h _. full j (omega arith));
-    apart = apart_ws;
-    cells = written_by (first xs (suc k)) (first ws k) (at xs i).row (at xs i).column 0 (full i lt).0 (full i lt).1
-        (of_absent ws k _ _ long_ws gone)
-        (λ a b _ _ other.
-        same_cell xs ws (suc k) k a b long long_ws apart apart_ws
-        (λ j h of.
-        let moved : j ≡ i → ⊥ = λ same. other (rw same at (sym of.0), rw same at (sym of.1)) in
-        ⊎_elim
-        (λ (last : j ≡ k). (i, omega (arith, moved), at_same xs i (at xs k) within ∙ ap (at xs) (sym last)))
-        (λ (inner : j ≡ k → ⊥). (j, omega (arith, inner), at_other xs i j (at xs k) moved))
-        (cases_eq j k))
-        (λ none. each_set (λ q. Of q a b → ⊥) xs k i (at xs k) within (none k (omega arith)) (λ j h _. none j (omega arith))));
-  }
+  pub record_removed : on_names (first ws k) ≡ written (on_names (first xs (suc k))) (at xs i).row (at xs i).column 0
+  record_removed =
+      written_by (first xs (suc k)) (first ws k) (at xs i).row (at xs i).column 0 (full i lt).0 (full i lt).1
+      (of_absent ws k _ _ long_ws gone)
+      (λ a b _ _ other.
+      same_cell xs ws (suc k) k a b long long_ws apart apart_ws
+      (λ j h of.
+      let moved : j ≡ i → ⊥ = λ same. other (rw same at (sym of.0), rw same at (sym of.1)) in
+      ⊎_elim
+      (λ (last : j ≡ k). (i, omega (arith, moved), at_same xs i (at xs k) within ∙ ap (at xs) (sym last)))
+      (λ (inner : j ≡ k → ⊥). (j, omega (arith, inner), at_other xs i j (at xs k) moved))
+      (cases_eq j k))
+      (λ none. each_set (λ q. Of q a b → ⊥) xs k i (at xs k) within (none k (omega arith)) (λ j h _. none j (omega arith))))

@@ -1,11 +1,14 @@
 -- What a list of records says of a cell, and how many cells it fills.
-use Rattle.std.proofs.Common.{◌≡◌, ℕ, zero, suc, ◌+◌, ◌<◌, ◌≤◌, ◌⊎◌, List, length, take, sym, refl, ap, ◌∙◌, subst, inl, inr, ⊎_elim, not-suc-le-zero, add-one, arith, get_or-take}
+use Rattle.std.proofs.Common.{◌≡◌, ℕ, zero, suc, ◌+◌, ◌<◌, ◌≤◌, ◌⊎◌, true, false, Some, None, eqb, List, length, take, sym, refl, ap, ◌∙◌, subst, inl, inr, ⊎_elim, not-suc-le-zero, add-one, arith, get_or-take}
 use Rattle.std.proofs.lemmas.List.{length-take-le}
-use Rattle.std.proofs.lemmas.List.Sums.{fold_more}
-use Rattle.std.proofs.lemmas.Bool.{cases_eq, cases_lt, lt-ltb}
+use Rattle.std.proofs.lemmas.List.Sums.{fold_more, fails_before_first}
+use Rattle.std.proofs.lemmas.List.Quantifiers.{position-Some}
+use Rattle.std.proofs.lemmas.Option.{none-some}
+use Rattle.std.specs.List.{position, position_or_len}
+use Rattle.std.proofs.lemmas.Bool.{cases_eq, cases_lt, lt-ltb, eq-eqb, eqb-true, and_parts}
 use Rattle.stores.specs.declared.record.Record.{Record}
 use Rattle.stores.specs.Matrices.{Matrix, blank, on_names, some, one_if, count}
-use Rattle.stores.specs.Records.{no_record, at, Of, put, matrix_of, Full, Apart, Absent, Lists}
+use Rattle.stores.specs.Records.{no_record, at, Of, is_of, put, matrix_of, Full, Apart, Absent, Lists}
 use Rattle.stores.proofs.Counting.{count_blank, count_written, count_on_names}
 use Rattle.stores.proofs.Writing.{written_here, written_row, written_column, at_names, empty_named}
 
@@ -66,6 +69,34 @@ look xs (suc n) s o =
     (λ (other : (at xs n).row ≡ s → ⊥). inr (absent_more xs n s o none (λ of. other of.0)))
     (cases_eq (at xs n).row s))
     (look xs n s o)
+
+-- what the test says
+is_of_from : (r : Record) (s o : ℕ) → Of r s o → is_of s o r ≡ true
+is_of_from r s o of = rw (eq-eqb r.row s of.0, eq-eqb r.column o of.1) refl
+
+of_from : (r : Record) (s o : ℕ) → is_of s o r ≡ true → Of r s o
+of_from r s o h =
+    let both = and_parts (eqb r.row s) (eqb r.column o) h in
+    (eqb-true r.row s both.0, eqb-true r.column o both.1)
+
+-- The first place of a cell among the first n, if there is one.
+module _ (xs : List Record) (n s o : ℕ) (long : n ≤ length xs) where
+  pub found_at : (i : ℕ) → position (is_of s o) (take n xs) ≡ Some i → (i < n) × Of (at xs i) s o
+  found_at i e =
+      let here = position-Some (is_of s o) (take n xs) i no_record e in
+      let lt : i < n = subst (λ k. i < k) (length-take-le n xs long) here.0 in
+      (lt, subst (λ r. Of r s o) (get_or-take n xs i no_record lt) (of_from (at (take n xs) i) s o here.1))
+
+  pub found_nowhere : position (is_of s o) (take n xs) ≡ None → Absent xs n s o
+  found_nowhere e i lt of =
+      let first_place = position_or_len (is_of s o) (take n xs) in
+      ⊎_elim
+      (λ (inside : first_place < length (take n xs)). none-some first_place (sym e ∙ rw (lt-ltb first_place (length (take n xs)) inside) refl))
+      (λ (past : length (take n xs) ≤ first_place).
+      let no : is_of s o (at (take n xs) i) ≡ false = fails_before_first (is_of s o) (take n xs) i no_record (omega (arith, length-take-le n xs long)) in
+      let yes : is_of s o (at xs i) ≡ true = is_of_from (at xs i) s o of in
+      absurd (cc (get_or-take n xs i no_record lt)))
+      (cases_lt first_place (length (take n xs)))
 
 pub of_cell : (xs : List Record) (n i s o : ℕ) → n ≤ length xs → Apart xs n → i < n → Of (at xs i) s o → first xs n s o ≡ (at xs i).mask
 of_cell xs n i s o h apart lt of =

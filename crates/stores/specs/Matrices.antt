@@ -1,5 +1,5 @@
 -- The access matrix as a store keeps it: a mask for each pair of names, and how many of its cells are not empty.
-use Rattle.std.specs.Prelude.{ℕ, zero, suc, ◌+◌, Bool, cond, not, ◌&&◌, ◌||◌, ◌==◌, nat_lt}
+use Rattle.std.specs.Prelude.{ℕ, zero, suc, ◌+◌, Bool, cond, not, ◌&&◌, ◌||◌, ◌==◌, List, [], ◌∷◌, nat_lt}
 
 -- the mask of row s and column o
 abbrev pub Matrix : Type 0
@@ -41,6 +41,14 @@ row_count f s = sum_below (λ o. one_if (some (f s o))) 64
 abbrev pub count : Matrix → ℕ
 count f = sum_below (row_count f) 64
 
+-- A cell takes a mask where it is not empty, or the mask is, or the limit is not reached.
+abbrev pub has_room : (limit : ℕ) → Matrix → (s o m : ℕ) → Bool
+has_room limit f s o m = some (f s o) || (not (some m) || nat_lt (count f) limit)
+
 -- A write is refused exactly if a name is over 63, or if the cell is empty, the new mask is not, and the limit is reached.
 abbrev pub takes : (limit : ℕ) → Matrix → (s o m : ℕ) → Bool
-takes limit f s o m = is_name s && (is_name o && (some (f s o) || (not (some m) || nat_lt (count f) limit)))
+takes limit f s o m = is_name s && (is_name o && has_room limit f s o m)
+
+-- The rules of a write, each with whether it is broken: both are names, and there is room.
+abbrev pub write_rules : (limit : ℕ) → Matrix → (s o m : ℕ) → List (ℕ × Bool)
+write_rules limit f s o m = (11, not (is_name s && is_name o)) ∷ (16, not (has_room limit f s o m)) ∷ []

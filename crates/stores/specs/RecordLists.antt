@@ -3,7 +3,7 @@ use Rattle.std.specs.Prelude.{ℕ, Bool, cond, ◌&&◌, List, take, vec_items, 
 use Rattle.model.specs.Answers.{Answer, accepted, refused}
 use Rattle.stores.specs.declared.list.RecordList.{RecordList}
 use Rattle.stores.specs.declared.record.Record.{Record}
-use Rattle.stores.specs.Matrices.{Matrix}
+use Rattle.stores.specs.Matrices.{Matrix, on_names}
 use Rattle.stores.specs.Records.{matrix_of}
 
 abbrev pub fits_list : (records : ℕ) → Bool
@@ -30,3 +30,7 @@ list_cells l = matrix_of (in_use l)
 
 abbrev pub list_limit : RecordList → ℕ
 list_limit l = vec_len l.records
+
+-- the list as a store shows it
+abbrev pub shown : RecordList → Matrix
+shown l = on_names (list_cells l)

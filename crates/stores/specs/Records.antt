@@ -1,5 +1,5 @@
 -- Cells as a list of records, each with its row, its column and its mask.
-use Rattle.std.specs.Prelude.{◌≡◌, ℕ, ◌<◌, List, length, fold, slice_index_or}
+use Rattle.std.specs.Prelude.{◌≡◌, ℕ, ◌<◌, Bool, ◌&&◌, ◌==◌, List, length, fold, slice_index_or}
 use Rattle.stores.specs.declared.record.Record.{Record}
 use Rattle.stores.specs.Matrices.{Matrix, blank, written}
 
@@ -13,6 +13,10 @@ at records i = slice_index_or records i no_record
 -- the record is of the cell [s, o]
 abbrev pub Of : Record → (s o : ℕ) → Type 0
 Of r s o = (r.row ≡ s) × (r.column ≡ o)
+
+-- the same as a test
+abbrev pub is_of : (s o : ℕ) → Record → Bool
+is_of s o r = (r.row == s) && (r.column == o)
 
 -- the matrix f with what the record says
 abbrev pub put : Matrix → Record → Matrix

@@ -8,7 +8,8 @@ pub mod cells;
 mod edits;
 pub mod memory;
 
-// The first `used` records are the non-empty cells, each once; the others are free.
+// The first `used` records are the non-empty cells, each once; the others are free. A count stands beside the records by a
+// rule of the project: a store fills fixed memory of the caller's, and hands it back whole.
 #[derive(Drop)]
 pub struct RecordList {
     records: Vec<Record>,

@@ -2,7 +2,7 @@
 use model::mask::Mask;
 use model::name::Name;
 
-#[derive(Clone, Copy)]
+#[derive(Clone, Copy, PartialEq, Eq)]
 pub struct Record {
     pub row: Name,
     pub column: Name,

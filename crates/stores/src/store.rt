@@ -1,10 +1,13 @@
 // A cell store keeps a mask for each pair of names, and has a limit on how many of them are not empty.
-ghost use Rattle.std.specs.Prelude.{◌≡◌, ℕ, if◌then◌else◌};
-ghost use Rattle.stores.specs.Matrices.{Matrix, on_names, blank, written, count, takes};
+ghost use Rattle.std.specs.Prelude.{◌≡◌, ℕ, is_ok};
+ghost use Rattle.model.specs.Answers.{refused_by, lowest, unless};
+ghost use Rattle.stores.specs.Matrices.{Matrix, on_names, blank, written, count, takes, write_rules};
 
+use model::fault::Reason;
 use model::mask::Mask;
 use model::name::Name;
 
+// Row and column stay two numbers: `write(63, 63, mask)` reads plainer than a cell made for each call.
 pub trait CellStore {
     // What the store holds. What it would say of a number that is no name does not count.
     ghost cells: { Self → Matrix };
@@ -16,10 +19,12 @@ pub trait CellStore {
     fn read(&self, row: Name, column: Name) -> Mask
         ensures { result ≡ on_names (cells self.now) row column };
 
-    // Puts a mask into a cell, or answers no and changes nothing.
-    fn write(&mut self, row: Name, column: Name, mask: Mask) -> bool
-        ensures answer { result ≡ takes (most self.old) (on_names (cells self.old)) row column mask }
-        ensures after { on_names (cells self.new) ≡ (if result then written (on_names (cells self.old)) row column mask else on_names (cells self.old)) }
+    // Puts a mask into a cell, or refuses to and changes nothing. That the limit stays is of two states, before and
+    // after, so neither an invariant nor a view can say it, and each edit does.
+    fn write(&mut self, row: Name, column: Name, mask: Mask) -> Result<(), Reason>
+        ensures answer { refused_by result ≡ lowest (write_rules (most self.old) (on_names (cells self.old)) row column mask) }
+        ensures taken { is_ok result ≡ takes (most self.old) (on_names (cells self.old)) row column mask }
+        ensures after { on_names (cells self.new) ≡ unless (refused_by result) (on_names (cells self.old)) (written (on_names (cells self.old)) row column mask) }
         ensures limit { most self.new ≡ most self.old };
 
     // How many cells are not empty.

@@ -1,4 +1,5 @@
 // Lists by their memory.
+use crate::either::rule;
 use std::alloc::Global;
 use std::process::Abort;
 use std::test::Fail;
@@ -29,7 +30,7 @@ fn refused(rt: &impl Abort, heap: Global, records: usize) -> Result<(), Fail> {
             assert!(rt; unfit.fault.place == 0);
             assert!(rt; unfit.memory.len() == records);
             for record in unfit.memory.as_slice().iter() {
-                assert!(rt; record.row == 1 && record.column == 2 && record.mask == 3);
+                assert!(rt; *record == USED);
             }
             Ok(())
         }
@@ -51,10 +52,11 @@ fn lengths(rt: HostRuntime) -> Result<(), Fail> {
 #[test]
 fn one_record(rt: HostRuntime) -> Result<(), Fail> {
     let mut list = list_of(rt.alloc(), 1)?;
-    assert!(rt; list.write(5, 6, 1) && list.write(5, 6, 2));
-    assert!(rt; !list.write(6, 5, 1) && list.write(6, 5, 0) && list.read(6, 5) == 0);
+    assert!(rt; list.write(5, 6, 1).is_ok() && list.write(5, 6, 2).is_ok());
+    assert!(rt; rule(list.write(6, 5, 1)) == Some(16));
+    assert!(rt; list.write(6, 5, 0).is_ok() && list.read(6, 5) == 0);
     assert!(rt; list.read(5, 6) == 2 && list.filled() == 1);
-    assert!(rt; list.write(5, 6, 0) && list.write(6, 5, 1));
+    assert!(rt; list.write(5, 6, 0).is_ok() && list.write(6, 5, 1).is_ok());
     assert!(rt; list.read(5, 6) == 0 && list.read(6, 5) == 1);
     Ok(())
 }
@@ -63,8 +65,10 @@ fn one_record(rt: HostRuntime) -> Result<(), Fail> {
 #[test]
 fn records(rt: HostRuntime) -> Result<(), Fail> {
     let mut list = list_of(rt.alloc(), 4)?;
-    assert!(rt; list.write(1, 1, 1) && list.write(2, 2, 2) && list.write(3, 3, 3));
-    assert!(rt; list.write(1, 1, 0));
+    assert!(rt;
+        list.write(1, 1, 1).is_ok() && list.write(2, 2, 2).is_ok() && list.write(3, 3, 3).is_ok()
+    );
+    assert!(rt; list.write(1, 1, 0).is_ok());
     let mut masks = 0;
     for record in list.records().iter() {
         assert!(rt; record.row == record.column);

@@ -1,12 +1,14 @@
 // A list as a cell store.
-ghost use Rattle.std.specs.Prelude.{◌≡◌, [], if◌then◌else◌, MatchBool};
-ghost use Rattle.stores.specs.Matrices.{on_names, blank, written, takes};
-ghost use Rattle.stores.specs.RecordLists.{records_of, in_use, contents, list_cells, list_limit};
+ghost use Rattle.std.specs.Prelude.{◌≡◌, [], is_ok, MatchResult};
+ghost use Rattle.model.specs.Answers.{refused_by, lowest, unless};
+ghost use Rattle.stores.specs.Matrices.{blank, written, takes, write_rules};
+ghost use Rattle.stores.specs.RecordLists.{records_of, in_use, contents, list_cells, list_limit, shown};
 ghost use Rattle.stores.specs.Records.{Lists};
 
 use crate::list::RecordList;
 use crate::record::Record;
 use crate::store::CellStore;
+use model::fault::Reason;
 use model::mask::Mask;
 use model::name::{NAMES, Name};
 
@@ -22,21 +24,22 @@ impl CellStore for RecordList {
         }
     }
 
-    fn write(&mut self, row: Name, column: Name, mask: Mask) -> bool
-        ensures answer { result ≡ takes (list_limit self.old) (on_names (list_cells self.old)) row column mask }
-        ensures after { on_names (list_cells self.new) ≡ (if result then written (on_names (list_cells self.old)) row column mask else on_names (list_cells self.old)) }
+    fn write(&mut self, row: Name, column: Name, mask: Mask) -> Result<(), Reason>
+        ensures answer { refused_by result ≡ lowest (write_rules (list_limit self.old) (shown self.old) row column mask) }
+        ensures taken { is_ok result ≡ takes (list_limit self.old) (shown self.old) row column mask }
+        ensures after { shown self.new ≡ unless (refused_by result) (shown self.old) (written (shown self.old) row column mask) }
         ensures limit { list_limit self.new ≡ list_limit self.old }
-        ensures memory { MatchBool result (Lists (in_use self.new) (on_names (list_cells self.new))) (self.new ≡ self.old) }
+        ensures memory { MatchResult result (λ _. Lists (in_use self.new) (shown self.new)) (λ _. self.new ≡ self.old) }
     {
         if row >= NAMES || column >= NAMES {
-            return false;
+            return Err(Reason::NoSuchName);
         }
         match self.find(row, column) {
             Some(i) => {
                 self.replace(i, mask);
-                true
+                Ok(())
             }
-            None if mask == 0 => true,
+            None if mask == 0 => Ok(()),
             None => self.add(Record { row, column, mask }),
         }
     }
@@ -50,7 +53,7 @@ impl CellStore for RecordList {
     }
 
     fn clear(&mut self)
-        ensures after { on_names (list_cells self.new) ≡ blank }
+        ensures after { shown self.new ≡ blank }
         ensures limit { list_limit self.new ≡ list_limit self.old }
         ensures memory { contents self.new ≡ (records_of self.old, []) }
     {

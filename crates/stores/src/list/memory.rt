@@ -1,8 +1,8 @@
 // How a list comes by its records, and how it gives them back.
 ghost use Rattle.std.specs.Prelude.{◌≡◌, [], take, if◌then◌else◌, Some, None, vec_len};
 ghost use Rattle.model.specs.Answers.{answer};
-ghost use Rattle.stores.specs.Matrices.{on_names, count};
-ghost use Rattle.stores.specs.RecordLists.{fits_list, if_list, contents, in_use, list_cells};
+ghost use Rattle.stores.specs.Matrices.{count};
+ghost use Rattle.stores.specs.RecordLists.{fits_list, if_list, contents, in_use, shown};
 ghost use Rattle.stores.specs.Records.{Lists};
 ghost use Rattle.stores.specs.Unfit.{made_answer, handed_back};
 
@@ -18,7 +18,7 @@ pub const MOST_RECORDS: usize = 4096;
 pub fn list_size(records: usize) -> Result<usize, Fault>
     ensures { answer (λ n. n) result ≡ if_list records records }
 {
-    if 1 <= records && records <= MOST_RECORDS {
+    if (1..=MOST_RECORDS).contains(&records) {
         Ok(records)
     } else {
         Err(Fault {
@@ -47,16 +47,16 @@ impl RecordList {
     // The records in use: exactly the non-empty cells, each once, in an order that is free.
     pub fn records(&self) -> &[Record]
         ensures value { result.now ≡ in_use self.now }
-        ensures exact { Lists result.now (on_names (list_cells self.now)) }
+        ensures exact { Lists result.now (shown self.now) }
     {
         let all = self.records.as_slice();
-        &all[0..self.used]
+        &all[..self.used]
     }
 
     // Gives all records back, those in use first: as many as there are non-empty cells.
     pub fn into_records(self) -> Vec<Record>
         ensures value { result ≡ self.records }
-        ensures exact { Lists (take (count (on_names (list_cells self))) result.items) (on_names (list_cells self)) }
+        ensures exact { Lists (take (count (shown self)) result.items) (shown self) }
     {
         let RecordList { records, used: _ } = self;
         records

@@ -1,25 +1,16 @@
-use Rattle.std.proofs.Common.{◌≡◌, ℕ, ◌+◌, ◌*◌, ◌≤◌, sym, ap, ◌∙◌, arith}
-use Rattle.stores.specs.Boards.{board_cells}
-use Rattle.stores.specs.Matrices.{on_names, some, one_if}
-use Rattle.stores.proofs.Counting.{sum_none, sum_step, sum_fits, one_bound}
+use Rattle.std.proofs.Common.{ℕ, rules, tests, refl, ◌∙◌}
+use Rattle.std.proofs.lemmas.Iterator.{YieldsList-from_range}
+use Rattle.std.proofs.lemmas.Iterator.Consumers.{YieldsList-at, YieldsList-from_filter, count_from_yields_List}
+use Rattle.std.proofs.lemmas.List.Sums.{length-filter}
+use Rattle.std.specs.List.{range_with_len}
+use Rattle.stores.specs.Boards.{shown}
+use Rattle.stores.specs.Matrices.{some, one_if}
+use Rattle.stores.proofs.Counting.{sum_range}
 use Rattle.stores.proofs.board.Board.row_filled.Goals as goal
 
--- what a turn adds
-abbrev cell : goal.After-one_if_some-total → ℕ → ℕ
-cell c o = one_if (some (on_names (board_cells c.args.self.now.masks.now) c.args.row o))
-
-here : (c : goal.After-one_if_some-total) → c.one_if_some-total.result ≡ cell c c.loop-column.column
-here c = c.one_if_some-total.ensures ∙ ap (λ m. one_if (some m)) c.read.ensures
-
-pub loop-column-init : goal.loop-column-init
-loop-column-init c = sym (sum_none _)
-
-pub overflow_add-total : goal.overflow_add-total
-overflow_add-total c =
-    let n = c.loop-column.column in
-    let few : c.loop-column.total + c.one_if_some-total.result ≤ (n + 1) * 1 =
-    sum_fits (cell c) 1 n _ _ (λ o. one_bound _) c.loop-column.invariant (here c) in
-    omega arith
-
-pub loop-column-preserved : goal.loop-column-preserved
-loop-column-preserved c = sum_step (cell c) c.loop-column.column _ _ c.loop-column.invariant (here c)
+pub returns : goal.returns
+returns c =
+    let held = λ (o : ℕ). some (shown c.args.self.now c.args.row o) in
+    count_from_yields_List c.filter.result c.count.result c.count.ensures.ran
+    (YieldsList-from_filter _ held (YieldsList-at c.filter.ensures.source (YieldsList-from_range 0 64 64 refl refl)) c.filter.ensures.closure (λ x r q k. search (rules, tests)))
+    ∙ (length-filter held (range_with_len 0 64) ∙ sum_range (λ o. one_if (held o)) 64)

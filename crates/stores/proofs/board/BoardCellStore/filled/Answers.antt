@@ -1,22 +1,23 @@
-use Rattle.std.proofs.Common.{ℕ, ◌+◌, ◌*◌, ◌≤◌, sym, arith}
-use Rattle.stores.specs.Boards.{board_cells}
-use Rattle.stores.specs.Matrices.{on_names, row_count}
-use Rattle.stores.proofs.Counting.{sum_none, sum_step, sum_fits, row_bound}
+use Rattle.std.proofs.Common.{◌≡◌, ◌^◌, rules, tests, refl, ◌∙◌, arith}
+use Rattle.std.proofs.lemmas.Iterator.{YieldsList-from_range, YieldsList-from_map}
+use Rattle.std.proofs.lemmas.Iterator.Adapters.{fits_from_length, at_most_from_yields_List}
+use Rattle.std.proofs.lemmas.Iterator.Consumers.{YieldsList-at, sum_by_from_yields_List}
+use Rattle.std.specs.List.{range_with_len}
+use Rattle.stores.specs.Boards.{shown}
+use Rattle.stores.specs.Matrices.{row_count}
+use Rattle.stores.proofs.Counting.{row_bound, sum_range}
 use Rattle.stores.proofs.board.BoardCellStore.filled.Goals as goal
 
--- what a turn adds
-abbrev row : goal.After-row_filled-total → ℕ → ℕ
-row c = row_count (on_names (board_cells c.args.self.now.masks.now))
+pub sum-requires-clause-fits : goal.sum-requires-clause-fits
+sum-requires-clause-fits c =
+    let row = row_count (shown c.args.self.now) in
+    fits_from_length _ _ 64 (2 ^ 64) (at_most_from_yields_List (YieldsList-at c.map.ensures.source (YieldsList-from_range 0 64 64 refl refl)) (omega arith)) c.map.ensures.closure (omega arith)
+    (λ x r q k.
+    let turn : (q ≡ _) × (r ≡ row x) = search (rules, tests) in
+    (turn.0, omega (arith, turn.1, row_bound (shown c.args.self.now) x)))
 
-pub loop-row-init : goal.loop-row-init
-loop-row-init c = sym (sum_none _)
-
-pub overflow_add-total : goal.overflow_add-total
-overflow_add-total c =
-    let n = c.loop-row.row in
-    let few : c.loop-row.total + c.row_filled-total.result ≤ (n + 1) * 64 =
-    sum_fits (row c) 64 n _ _ (row_bound _) c.loop-row.invariant c.row_filled-total.ensures in
-    omega arith
-
-pub loop-row-preserved : goal.loop-row-preserved
-loop-row-preserved c = sum_step (row c) c.loop-row.row _ _ c.loop-row.invariant c.row_filled-total.ensures
+pub returns : goal.returns
+returns c =
+    sum_by_from_yields_List (row_count (shown c.args.self.now)) (range_with_len 0 64) c.map.result c.sum.result c.sum.ensures.ran
+    (YieldsList-from_map _ (row_count (shown c.args.self.now)) (YieldsList-at c.map.ensures.source (YieldsList-from_range 0 64 64 refl refl)) c.map.ensures.closure (λ x r q k. search (rules, tests)))
+    ∙ sum_range (row_count (shown c.args.self.now)) 64

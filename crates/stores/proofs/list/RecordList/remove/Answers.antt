@@ -1,15 +1,8 @@
-use Rattle.std.proofs.Common.{◌-◌, refl, arith}
+use Rattle.std.proofs.Common.{◌-◌, arith}
 use Rattle.stores.proofs.Holding.{read_at, list_removed}
 use Rattle.stores.proofs.list.RecordList.remove.Goals as goal
 
-pub invariant_of-self : goal.invariant_of-self
-invariant_of-self c =
+pub returns-clause-cells : goal.returns-clause-cells
+returns-clause-cells c =
     let l = c.args.self.now in
-    let edit = list_removed l c.args.i _ c.requires (read_at l (l.used - 1) _ (omega arith) c.index-record.ensures) in
-    record { room = omega (arith, l.room); some = l.some; few = l.few; full = edit.full; apart = edit.apart }
-
-pub returns : goal.returns
-returns c =
-    let l = c.args.self.now in
-    let edit = list_removed l c.args.i _ c.requires (read_at l (l.used - 1) _ (omega arith) c.index-record.ensures) in
-    record { cells = edit.cells; limit = refl }
+    list_removed l c.args.i _ c.requires (read_at l (l.used - 1) _ (omega arith) c.index.ensures)
