@@ -9,7 +9,7 @@ use model::scale::Scale;
 use model::stamp::{NULL, Stamp};
 use std::test::Fail;
 use tapes::order::Order;
-use tapes::reader::next_order;
+use tapes::orders::Orders;
 use tapes::table::row_of;
 use tapes::tape::Tape;
 
@@ -67,13 +67,30 @@ fn bounded_lists(rt: HostRuntime) {
 fn orders(rt: HostRuntime) -> Result<(), Fail> {
     assert!(rt; row_of(0x51).is_some() && row_of(0x35).is_none());
     let tape = [0x1F, 0x60, 1, 2, 3, 4, 5];
-    let Ok(ban) = next_order(&tape, 1, Tape::Bans) else {
+    let Ok(ban) = Tape::Bans.order_at(&tape, 1) else {
         return Err(Fail::new("no order"));
     };
     assert!(rt; ban.offset == 1 && ban.size == 6);
     assert!(rt; matches!(ban.order, Order::Ban(_)));
     assert!(rt;
-        next_order(&tape, 1, Tape::Scheme).is_err() && next_order(&tape, 9, Tape::Scheme).is_err()
+        Tape::Scheme.order_at(&tape, 1).is_err() && Tape::Scheme.order_at(&tape, 9).is_err()
     );
+    Ok(())
+}
+
+#[test]
+fn orders_of_a_tape(rt: HostRuntime) -> Result<(), Fail> {
+    let tape = [0x10, 1, 0, 0x34, 0, 0x1F, 0x60, 0x1F];
+    let Ok(mut orders) = Orders::of(&tape, Tape::Scheme) else {
+        return Err(Fail::new("too long"));
+    };
+    assert_eq!(rt; orders.end(), 8);
+    for offset in [0, 3, 5] {
+        assert!(rt; matches!(orders.next(), Some(Ok(placed)) if placed.offset == offset));
+    }
+    // An order of another tape is refused at its place, and nothing comes after it.
+    assert!(rt; matches!(orders.next(), Some(Err(fault)) if fault.place == 6));
+    assert!(rt; orders.next().is_none());
+    assert_eq!(rt; orders.end(), 8);
     Ok(())
 }

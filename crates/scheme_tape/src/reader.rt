@@ -10,20 +10,18 @@ use model::counts::Counts;
 use model::fault::Fault;
 use model::scale::Scale;
 use scheme::scheme::Scheme;
-use tapes::reader::{next_order, tape_length};
+use tapes::orders::Orders;
 use tapes::tape::Tape;
 
 // The reader by the scales' counts: they are all that a tape's rules hang on.
 fn read_by(counts: &Counts, tape: &[u8]) -> Result<Scheme, Fault>
     ensures { SchemeRead counts.now tape.now (answer commands_of result) }
 {
-    let end = tape_length(tape, Tape::Scheme)?;
+    let orders = Orders::of(tape, Tape::Scheme)?;
+    let end = orders.end();
     let mut draft = Draft::empty();
-    let mut at: u16 = 0;
-    while at < end {
-        let placed = next_order(tape, at, Tape::Scheme)?;
-        draft.take_in(counts, placed)?;
-        at += placed.size;
+    for placed in orders {
+        draft.take_in(counts, placed?)?;
     }
     draft.finish(end)
 }

@@ -1,4 +1,4 @@
-pub mod Finding
 pub mod Handing
 pub mod Reading
 pub mod Rows
+pub mod Stepping

@@ -1,11 +1,11 @@
 -- A tape has one reading, in every grammar whose orders can be told apart.
 use Rattle.std.proofs.Common.{◌≡◌, ℕ, false, List, [], ◌∷◌, ◌++◌, length, Some, None, Option, sym, refl, ap, ◌∙◌, subst, append_assoc, append-nil}
 use Rattle.std.proofs.lemmas.Bool.{both_ways}
-use Rattle.model.proofs.Cases.{none_some}
+use Rattle.std.proofs.lemmas.Grind.{flat_map-append}
 use Rattle.tapes.specs.Grammars.{Grammar, Runs, done, then, codes, Fails, no_order, breaks_rule, cut_short, Stopped, Whole}
 
 pub some_none : {X : Type 0} (x : X) (o : Option X) → o ≡ Some x → o ≡ None → ⊥
-some_none x o some none = none_some x (sym none ∙ some)
+some_none x o some none = cc
 
 module _ {I D : Type 0} (g : Grammar I D) where
   -- one order more at the end
@@ -19,8 +19,7 @@ module _ {I D : Type 0} (g : Grammar I D) where
   runs_join (then first rest) more = then first (runs_join rest more)
 
   pub codes_join : (is js : List I) → codes g (is ++ js) ≡ codes g is ++ codes g js
-  codes_join [] js = refl
-  codes_join (i ∷ is) js = ap (λ l. g.code i ++ l) (codes_join is js) ∙ sym (append_assoc (g.code i) (codes g is) (codes g js))
+  codes_join is js = flat_map-append g.code is js
 
 -- `decode` reads the first order of some bytes, and finds each order that is written there.
 module _ {I D : Type 0} (g : Grammar I D) (decode : List ℕ → Option (I × List ℕ)) (reads : (i : I) (after : List ℕ) → decode (g.code i ++ after) ≡ Some (i, after)) (nothing : decode [] ≡ None) where

@@ -1,5 +1,6 @@
 -- The table of orders: byte, number of operands, and the tape that the order belongs to.
-use Rattle.std.specs.Prelude.{◌≡◌, ℕ, ◌<◌, cond, List, [], ◌∷◌, length, Some, None, Option, ◌==◌, slice_index_or}
+use Rattle.std.specs.Prelude.{◌≡◌, ℕ, ◌<◌, List, [], ◌∷◌, length, Option, ◌==◌, slice_index_or}
+use Rattle.std.specs.List.{find}
 use Rattle.tapes.specs.declared.table.OrderRow.{OrderRow}
 use Rattle.tapes.specs.declared.tape.Tape.{Tape}
 use Rattle.tapes.specs.declared.tape.Tape.TheVariants.{Scheme, Opening, Certificate, Bans}
@@ -30,8 +31,7 @@ rows =
 
 -- the first row of that byte
 abbrev pub find_row : ℕ → List OrderRow → Option OrderRow
-find_row byte [] = None
-find_row byte (r ∷ rs) = cond (r.byte == byte) (Some r) (find_row byte rs)
+find_row byte table = find (λ r. r.byte == byte) table
 
 abbrev pub row_of : ℕ → Option OrderRow
 row_of byte = find_row byte rows

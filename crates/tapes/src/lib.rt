@@ -2,6 +2,7 @@
 #![tactic(auto)]
 
 pub mod order;
+pub mod orders;
 pub mod reader;
 pub mod table;
 pub mod tape;

@@ -1,15 +1,13 @@
-// Reading a tape: how long it is, and the order that stands at an offset.
+// The order that stands at an offset of a tape.
 ghost use Rattle.std.specs.Prelude.{◌≡◌, drop};
 ghost use Rattle.std.specs.Option.{option_map};
 ghost use Rattle.model.specs.Answers.{answer};
-ghost use Rattle.tapes.specs.Readers.{placed, sized, with_size, measured, handed_on, row_on, first_order};
+ghost use Rattle.tapes.specs.Readers.{placed, sized, with_size, handed_on, row_on, first_order};
 
 use crate::order::{Order, decode};
 use crate::table::{OrderRow, row_of};
 use crate::tape::Tape;
-use model::fault::{Fault, Reason};
-
-const LONGEST: u16 = 65535;
+use model::fault::{Fault, Layer, Reason};
 
 // An order as a part of its tape: its offset there, and how many bytes it takes.
 #[derive(Clone, Copy)]
@@ -19,61 +17,40 @@ pub struct Placed<'a> {
     pub size: u16,
 }
 
-// The length of a tape, unless it is too long.
-pub fn tape_length(bytes: &[u8], tape: Tape) -> Result<u16, Fault>
-    ensures { answer (λ n. n) result ≡ measured tape bytes.now }
-{
-    if bytes.len() > LONGEST as usize {
-        return Err(Fault {
-            layer: tape.layer(),
-            reason: Reason::TapeTooLong,
-            place: LONGEST,
-        });
+impl Tape {
+    // The row of the byte, where it is an order of this tape.
+    fn own_row(self, byte: u8) -> Option<OrderRow>
+        ensures { result ≡ row_on byte self }
+    {
+        row_of(byte).filter(|row| row.tape == self)
     }
-    Ok(bytes.len() as u16)
-}
 
-// The row of the byte, where it is an order of this tape.
-fn row_on(byte: u8, tape: Tape) -> Option<OrderRow>
-    ensures { result ≡ row_on byte tape }
-{
-    let row = row_of(byte)?;
-    if row.tape == tape { Some(row) } else { None }
-}
-
-// The order of this tape with which the bytes begin.
-fn first_order<'a>(bytes: &'a [u8], tape: Tape) -> Option<(Order<'a>, u16)>
-    ensures { option_map sized result ≡ option_map with_size (first_order tape bytes.now) }
-{
-    let (byte, rest) = bytes.split_first()?;
-    let row = row_on(*byte, tape)?;
-    let size = row.operands as usize;
-    if size > rest.len() {
-        return None;
+    // The order of this tape with which the bytes begin.
+    fn first_order<'a>(self, bytes: &'a [u8]) -> Option<(Order<'a>, u16)>
+        ensures { option_map sized result ≡ option_map with_size (first_order self bytes.now) }
+    {
+        let (byte, rest) = bytes.split_first()?;
+        let row = self.own_row(*byte)?;
+        let operands = rest.get(..usize::from(row.operands))?;
+        let order = decode(*byte, operands)?;
+        Some((order, 1 + u16::from(row.operands)))
     }
-    let order = decode(*byte, &rest[0..size])?;
-    Some((order, 1 + row.operands as u16))
-}
 
-// The order of this tape that stands at an offset; what is none is refused there.
-pub fn next_order<'a>(bytes: &'a [u8], offset: u16, tape: Tape) -> Result<Placed<'a>, Fault>
-    ensures { answer placed result ≡ handed_on tape offset (first_order tape (drop offset bytes.now)) }
-{
-    let refusal = Fault {
-        layer: tape.layer(),
-        reason: Reason::NoOrder,
-        place: offset,
-    };
-    if offset as usize > bytes.len() {
-        return Err(refusal);
+    // The order of this tape that stands at an offset; what is none is refused there.
+    pub fn order_at<'a>(self, bytes: &'a [u8], offset: u16) -> Result<Placed<'a>, Fault>
+        ensures { answer placed result ≡ handed_on self offset (first_order self (drop offset bytes.now)) }
+    {
+        let refusal = Fault {
+            layer: Layer::from(self),
+            reason: Reason::NoOrder,
+            place: offset,
+        };
+        let rest = bytes.get(usize::from(offset)..).ok_or(refusal)?;
+        let (order, size) = self.first_order(rest).ok_or(refusal)?;
+        Ok(Placed {
+            order,
+            offset,
+            size,
+        })
     }
-    let rest = &bytes[offset as usize..];
-    let Some((order, size)) = first_order(rest, tape) else {
-        return Err(refusal);
-    };
-    Ok(Placed {
-        order,
-        offset,
-        size,
-    })
 }

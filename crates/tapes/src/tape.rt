@@ -12,12 +12,12 @@ pub enum Tape {
     Bans,
 }
 
-impl Tape {
-    // The layer in which the tape's faults lie.
-    pub fn layer(self) -> Layer
-        ensures { result ≡ layer_of self }
-    {
-        match self {
+// The layer in which a tape's faults lie.
+impl From<Tape> for Layer {
+    ghost from_gives = { λ tape layer. layer ≡ layer_of tape };
+
+    fn from(tape: Tape) -> Layer {
+        match tape {
             Tape::Scheme => Layer::Scheme,
             Tape::Opening => Layer::Opening,
             Tape::Certificate => Layer::Certificate,

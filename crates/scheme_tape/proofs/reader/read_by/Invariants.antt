@@ -1,10 +1,13 @@
-use Rattle.std.proofs.Common.{◌-◌, ◌≤◌}
+use Rattle.tapes.specs.declared.tape.Tape.TheVariants.{Scheme}
+use Rattle.tapes.specs.Steps.{Reads}
 use Rattle.scheme_tape.specs.Views.{draft_of}
 use Rattle.scheme_tape.proofs.Loop.{SoFar}
 use Rattle.scheme_tape.proofs.reader.read_by.Given as goal
 
-abbrev pub invariant-loop-at : goal.invariant-loop-at
-invariant-loop-at l = SoFar l.counts l.tape l.at (draft_of l.draft) × (l.at ≤ l.end)
-
-abbrev pub decreases-loop-at : goal.decreases-loop-at
-decreases-loop-at l = l.end - l.at
+abbrev pub invariant-loop-placed : goal.invariant-loop-placed
+invariant-loop-placed l = record {
+  can : (goal.iterator-loop-placed).can_next l.placed-iterator;
+  ends : (goal.iterator-loop-placed).is_finite l.placed-iterator;
+  reads : Reads Scheme l.tape l.placed-iterator.at l.placed-iterator;
+  so_far : SoFar l.counts l.tape l.placed-iterator.at (draft_of l.draft);
+}
