@@ -1,5 +1,5 @@
 -- What a session answers to each call, and what it keeps.
-use Rattle.std.specs.Prelude.{◌≡◌, ℕ, List, length, Some, None, Option}
+use Rattle.std.specs.Prelude.{◌≡◌, ℕ, List, length, Some, None, Option, Result, Ok, Err}
 use Rattle.std.specs.Option.{option_map}
 use Rattle.model.specs.Answers as Answers
 use Rattle.model.specs.Faults.{layer_number, reason_number}
@@ -9,8 +9,10 @@ use Rattle.scheme.specs.Views.{commands_of}
 use Rattle.scheme_tape.specs.Reading.{SchemeRead}
 use Rattle.script.specs.Calls.{Call, nothing, scheme, list, Says}
 use Rattle.script.specs.Finds.{Finds}
-use Rattle.kiosk.specs.declared.answer.Answer.{Answer}
-use Rattle.kiosk.specs.declared.answer.Answer.TheVariants.{Accepted, Refused, List as Listed, NoScheme, BadLine}
+use Rattle.kiosk.specs.declared.answer.Reply.{Reply}
+use Rattle.kiosk.specs.declared.answer.Reply.TheVariants.{Accepted, Listing}
+use Rattle.kiosk.specs.declared.answer.Refusal.{Refusal}
+use Rattle.kiosk.specs.declared.answer.Refusal.TheVariants.{Fault, NoScheme, BadLine}
 use Rattle.kiosk.specs.declared.session.Session.{Session}
 
 -- What is said of a call.
@@ -25,13 +27,13 @@ pub data Said : Type 0 where
   no_scheme : Said
   bad_line : Said
 
-abbrev pub said : Option Answer → Said
+abbrev pub said : Option (Result Reply Refusal) → Said
 said None = silence
-said (Some (Accepted n)) = ok n
-said (Some (Refused f)) = fault (layer_number f.layer) (reason_number f.reason) f.place
-said (Some (Listed s)) = listing (commands_of s)
-said (Some NoScheme) = no_scheme
-said (Some BadLine) = bad_line
+said (Some (Ok (Accepted n))) = ok n
+said (Some (Ok (Listing s))) = listing (commands_of s)
+said (Some (Err (Fault f))) = fault (layer_number f.layer) (reason_number f.reason) f.place
+said (Some (Err NoScheme)) = no_scheme
+said (Some (Err BadLine)) = bad_line
 
 -- The commands of the scheme that was accepted last, if any was.
 abbrev pub State : Type 0

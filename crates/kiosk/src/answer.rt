@@ -1,5 +1,7 @@
 // What a line is answered.
+ghost use Rattle.std.specs.Prelude.{◌≡◌, Ok, Err};
 ghost use Rattle.kiosk.specs.Answers.{answer_words};
+ghost use Rattle.kiosk.specs.declared.answer.Refusal.{Refusal};
 
 use model::fault::Fault;
 use scheme::scheme::Scheme;
@@ -8,29 +10,50 @@ use words::InWords;
 use words::listing::Listing;
 
 #[derive(Clone, Copy)]
-pub enum Answer {
+pub enum Reply {
     // The scheme is accepted; so many commands it has.
     Accepted(usize),
-    Refused(Fault),
-    List(Scheme),
+    Listing(Scheme),
+}
+
+#[derive(Clone, Copy)]
+pub enum Refusal {
+    Fault(Fault),
+    // A list is asked for, and no scheme was accepted yet.
     NoScheme,
     BadLine,
 }
 
+pub type Answer = Result<Reply, Refusal>;
+
+impl From<Fault> for Refusal {
+    ghost from_gives = { λ fault r. r ≡ Refusal.Fault fault };
+
+    fn from(cause: Fault) -> Refusal {
+        Refusal::Fault(cause)
+    }
+}
+
 // Without the last line break. What follows ` -- ` is for people.
-impl fmt::Display for Answer {
-    ghost output = { answer_words };
+impl fmt::Display for Reply {
+    ghost output = { λ reply. answer_words (Ok reply) };
 
     fn fmt<W: fmt::Write>(&self, f: &mut fmt::Formatter<W>) -> fmt::Result {
         match self {
-            Answer::Accepted(count) => write!(f, "ok -- the scheme is accepted; commands: {count}"),
-            Answer::Refused(fault) => {
-                let fault = InWords(*fault);
-                write!(f, "{fault}")
-            }
-            Answer::List(scheme) => write_list(f, scheme),
-            Answer::NoScheme => write!(f, "error no scheme"),
-            Answer::BadLine => write!(f, "error bad line"),
+            Reply::Accepted(count) => write!(f, "ok -- the scheme is accepted; commands: {count}"),
+            Reply::Listing(scheme) => write_list(f, scheme),
+        }
+    }
+}
+
+impl fmt::Display for Refusal {
+    ghost output = { λ refusal. answer_words (Err refusal) };
+
+    fn fmt<W: fmt::Write>(&self, f: &mut fmt::Formatter<W>) -> fmt::Result {
+        match self {
+            Refusal::Fault(fault) => write!(f, "{}", InWords(*fault)),
+            Refusal::NoScheme => write!(f, "error no scheme"),
+            Refusal::BadLine => write!(f, "error bad line"),
         }
     }
 }

@@ -17,8 +17,10 @@ fn serve<R: io::Read + Drop>(rt: &HostRuntime, script: R) -> io::Result<()> {
     let mut session = Session::new();
     for line in BufReader::new(heap, script)?.split(heap, b'\n') {
         let line = line?;
-        if let Some(answer) = session.answer_line(heap, line.as_slice())? {
-            rt.println(answer)?;
+        match session.answer_line(heap, line.as_slice())? {
+            Some(Ok(reply)) => rt.println(reply)?,
+            Some(Err(refusal)) => rt.println(refusal)?,
+            None => (),
         }
     }
     Ok(())

@@ -58,15 +58,8 @@ module _ (word : List ℕ) (i m : ℕ) (inside : i < length word) where
   opened : worth (drop i word) m ≡ worth (get_or word i 0 ∷ drop (i + 1) word) m
   opened = at_drop_more (λ t. worth t m) word i 0 inside
 
-  pub longer : (n : ℕ) → Longer m (get_or word i 0) n → worth (drop (i + 1) word) n ≡ worth (drop i word) m
-  longer n h = sym (opened ∙ ap (λ o. followed o m (worth (drop (i + 1) word))) h.is ∙ ap (worth (drop (i + 1) word)) (sym h.sum))
-
   -- where no digit can follow within the bound, the whole is not within it
   pub no_longer : (most : ℕ) → ((n : ℕ) → Longer m (get_or word i 0) n × (n ≤ most) → ⊥) → (n : ℕ) → worth (drop i word) m ≡ Some n → n ≤ most → ⊥
   no_longer most none n e le =
       let p = digit_of (decimal_value (get_or word i 0)) m (worth (drop (i + 1) word)) n (sym opened ∙ e) in
       none (10 * m + p.0) (record { digit = p.0; is = p.1; sum = refl }, omega (arith, grows (drop (i + 1) word) _ n p.2))
-
-pub not_empty : {word : List ℕ} {n : ℕ} → Number word n → 0 < length word
-not_empty (one_digit is) = omega arith
-not_empty (more_digits is s) = omega arith

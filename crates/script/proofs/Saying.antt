@@ -1,14 +1,13 @@
 -- What a line says, by the text past its blanks, and that it says one thing.
-use Rattle.std.proofs.Common.{◌≡◌, ℕ, true, false, List, [], ◌∷◌, ◌++◌, Some, None, codes, Option, sym, refl, ap, ◌∙◌, subst, ⊎_elim, arith}
-use Rattle.std.proofs.lemmas.Bool.{cases_Bool, eqb-true, both_ways}
+use Rattle.std.proofs.Common.{◌≡◌, ℕ, ◌<◌, true, false, List, [], ◌∷◌, ◌++◌, length, codes, sym, refl, ap, ◌∙◌, subst, arith}
+use Rattle.std.proofs.lemmas.Bool.{eqb-true, both_ways}
 use Rattle.script.specs.declared.keyword.Keyword.{Keyword}
 use Rattle.script.specs.Words.{Blanks, Begins, past_blanks, front_word, past_word}
 use Rattle.script.specs.Hex.{Spells}
 use Rattle.script.specs.Keywords.{spelling}
-use Rattle.script.specs.Finds.{Finds}
 use Rattle.script.specs.Calls.{Call, nothing, scheme, list, Asks, asks_scheme, asks_list, Says, blank_line, remark_line, call_line, OneCall, silent}
 use Rattle.script.proofs.Spelling.{one_spelling}
-use Rattle.script.proofs.Parting.{margin, margin_blanks, margin_whole, past_margin, blanks_past, past_none, begins, begun_by, word_is, rest_is}
+use Rattle.script.proofs.Parting.{margin, margin_blanks, margin_whole, past_margin, blanks_past, past_none, begins_with, begun_by, word_is, one_beginning}
 
 -- what each keyword asks for, read backward
 pub scheme_asks : {key : Keyword} {rest : List ℕ} {call : Call} → Asks key rest call → key ≡ Keyword.Scheme → (bytes : List ℕ) × Spells rest bytes × (call ≡ scheme bytes)
@@ -32,9 +31,23 @@ one_key Keyword.List Keyword.Scheme e = absurd (grind arith)
 one_key Keyword.List Keyword.List e = refl
 
 -- no keyword is empty or begins like a remark
+some_key : (key : Keyword) → 0 < length (spelling key)
+some_key Keyword.Scheme = omega arith
+some_key Keyword.List = omega arith
+
 loud : (key : Keyword) (rest : List ℕ) → silent (spelling key ++ rest) ≡ false
 loud Keyword.Scheme rest = refl
 loud Keyword.List rest = refl
+
+-- a line of blanks and a remark are silent, and a line that begins with a keyword is not
+silent_blanks : (line : List ℕ) → Blanks line → silent (past_blanks line) ≡ true
+silent_blanks line bs = ap silent (blanks_past line bs)
+
+silent_remark : (front rest : List ℕ) → Blanks front → silent (past_blanks (front ++ (codes "#" ++ rest))) ≡ true
+silent_remark front rest bs = ap silent (past_margin front (codes "#" ++ rest) bs refl)
+
+heard : (key : Keyword) (line rest : List ℕ) → Begins line (spelling key) rest → silent (past_blanks line) ≡ false
+heard key line rest b = ap silent (begun_by line (spelling key) rest b) ∙ loud key rest
 
 -- where nothing follows the blanks but a remark, the line says nothing
 silent_at : (line text : List ℕ) → past_blanks line ≡ text → silent text ≡ true → Says line nothing
@@ -47,53 +60,33 @@ silent_at line (b ∷ text) e is =
 pub silent_says : (line : List ℕ) → silent (past_blanks line) ≡ true → Says line nothing
 silent_says line is = silent_at line (past_blanks line) refl is
 
--- any other line goes by its first word
-pub record Calls (line : List ℕ) (call : Call) : Type 0 where
-  pub key : Keyword
-  pub word : front_word (past_blanks line) ≡ spelling key
-  pub asked : Asks key (past_word (past_blanks line)) call
-  pub heard : silent (past_blanks line) ≡ false
-
-called : {key : Keyword} {line rest : List ℕ} {call : Call} → Begins line (spelling key) rest → Asks key rest call → Calls line call
-called {key} {line} {rest} {call} b a = record {
-  key = key;
-  word = word_is line (spelling key) rest b;
-  asked = subst (λ t. Asks key t call) (sym (rest_is line (spelling key) rest b)) a;
-  heard = ap silent (begun_by line (spelling key) rest b) ∙ loud key rest;
-}
-
-pub heard_says : {line : List ℕ} {call : Call} → Says line call → silent (past_blanks line) ≡ false → Calls line call
-heard_says (blank_line line bs) is = absurd (both_ways _ is (ap silent (blanks_past line bs)))
-heard_says (remark_line front rest bs) is = absurd (both_ways _ is (ap silent (past_margin front (codes "#" ++ rest) bs)))
-heard_says (call_line b a) is = called b a
-
 silent_call : {line : List ℕ} {call : Call} → Says line call → silent (past_blanks line) ≡ true → call ≡ nothing
 silent_call (blank_line line bs) is = refl
 silent_call (remark_line front rest bs) is = refl
-silent_call (call_line b a) is = absurd (both_ways _ (called b a).heard is)
+silent_call (call_line {key} {line} {rest} b a) is = absurd (both_ways _ (heard key line rest b) is)
+
+-- a line that begins with a keyword says what the keyword asks for
+pub begins_key : (line word rest : List ℕ) (key : Keyword) → word ≡ front_word (past_blanks line) → rest ≡ past_word (past_blanks line) → word ≡ spelling key → Begins line (spelling key) rest
+begins_key line word rest key w r is =
+    subst (λ x. Begins line x rest) is (begins_with line word rest w r (subst (λ x. 0 < length x) (sym is) (some_key key)))
+
+pub asked_by : {key : Keyword} {line rest : List ℕ} {call : Call} → Begins line (spelling key) rest → Says line call → Asks key rest call
+asked_by {key} {rest = rest} b (blank_line line bs) = absurd (both_ways _ (heard key line rest b) (silent_blanks line bs))
+asked_by {key} {rest = left} b (remark_line front rest bs) = absurd (both_ways _ (heard key (front ++ (codes "#" ++ rest)) left b) (silent_remark front rest bs))
+asked_by {key} {rest = rest} {call} b (call_line {key = k} b' a) =
+    let one = one_beginning b' b in
+    subst (λ x. Asks x rest call) (one_key k key one.0) (subst (λ t. Asks k t call) one.1 a)
+
+-- and one that begins with none says nothing that can be read
+pub no_key_says : (line : List ℕ) → silent (past_blanks line) ≡ false → ((key : Keyword) → front_word (past_blanks line) ≡ spelling key → ⊥) → (call : Call) → Says line call → ⊥
+no_key_says _ is none call (blank_line line bs) = both_ways _ is (silent_blanks line bs)
+no_key_says _ is none call (remark_line front rest bs) = both_ways _ is (silent_remark front rest bs)
+no_key_says _ is none call (call_line {key} {line} {rest} b a) = none key (word_is line (spelling key) rest b)
+
+said_once : {line : List ℕ} {c d : Call} → Says line c → Says line d → c ≡ d
+said_once (blank_line line bs) q = sym (silent_call q (silent_blanks line bs))
+said_once (remark_line front rest bs) q = sym (silent_call q (silent_remark front rest bs))
+said_once (call_line b a) q = one_asked a (asked_by b q)
 
 pub one_call : OneCall
-one_call line c d p q =
-    ⊎_elim
-    (λ is. silent_call p is ∙ sym (silent_call q is))
-    (λ is.
-    let x = heard_says p is in
-    let y = heard_says q is in
-    let same = one_key x.key y.key (sym x.word ∙ y.word) in
-    one_asked (subst (λ k. Asks k (past_word (past_blanks line)) c) same x.asked) y.asked)
-    (cases_Bool (silent (past_blanks line)))
-
--- where the first word is a keyword, the line begins with it
-pub begins_key : (line : List ℕ) (key : Keyword) → silent (past_blanks line) ≡ false → front_word (past_blanks line) ≡ spelling key → Begins line (spelling key) (past_word (past_blanks line))
-begins_key line key is word =
-    subst (λ w. Begins line w (past_word (past_blanks line))) word (begins line (λ none. both_ways _ is (ap silent none)))
-
--- and says just what the keyword asks for
-pub key_says : (line : List ℕ) (key : Keyword) (o : Option Call) → silent (past_blanks line) ≡ false → front_word (past_blanks line) ≡ spelling key → Finds (Asks key (past_word (past_blanks line))) o → Finds (Says line) o
-key_says line key (Some call) is word a = call_line (begins_key line key is word) a
-key_says line key None is word none = λ call s.
-    let x = heard_says s is in
-    none call (subst (λ k. Asks k (past_word (past_blanks line)) call) (one_key x.key key (sym x.word ∙ word)) x.asked)
-
-pub no_key_says : (line : List ℕ) → silent (past_blanks line) ≡ false → ((key : Keyword) → front_word (past_blanks line) ≡ spelling key → ⊥) → (call : Call) → Says line call → ⊥
-no_key_says line is none call s = let x = heard_says s is in none x.key x.word
+one_call line c d p q = said_once p q

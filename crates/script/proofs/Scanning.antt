@@ -1,57 +1,38 @@
--- One step of a scan over a text, and its end.
-use Rattle.std.proofs.Common.{◌≡◌, ℕ, ◌+◌, ◌<◌, ◌≤◌, true, false, List, [], ◌∷◌, ◌++◌, length, get_or, take, drop, sym, ap, ◌∙◌, append_assoc, arith}
-use Rattle.std.proofs.lemmas.List.{drop_more, drop_all, take_more}
-use Rattle.std.proofs.lemmas.Bool.{cond-true, cond-false, cond_both}
-use Rattle.script.specs.Words.{blank, past_blanks, front_word, past_word}
+-- Where a text first passes a test: what stands before that place, and from there on.
+use Rattle.std.proofs.Common.{◌≡◌, ℕ, ◌+◌, ◌<◌, Bool, true, false, not, List, [], ◌∷◌, ◌++◌, length, get_or, take, drop, unwrap_or, subst, arith}
+use Rattle.std.specs.Prelude.{⊤, IsFalse, All, position}
+use Rattle.std.specs.List.{position_or_len}
+use Rattle.std.proofs.lemmas.Bool.{cond_both}
+use Rattle.std.proofs.lemmas.Bool.Decides.{nat_tests}
+use Rattle.std.proofs.lemmas.Grind.{common_steps}
+use Rattle.std.proofs.lemmas.List.{places, get_or_append_left, drop-drop}
+use Rattle.std.proofs.lemmas.List.Sums.{position_or_len_is, fails_before_first, prefix_len-le-length}
 
-module _ (text : List ℕ) (i : ℕ) (inside : i < length text) where
-  -- the text from i on, taken apart
-  opened : drop i text ≡ get_or text i 0 ∷ drop (i + 1) text
-  opened = drop_more text i 0 inside
+-- what `position` and `unwrap_or` give together
+pub at_position : (p : ℕ → Bool) (text : List ℕ) → unwrap_or (position p text) (length text) ≡ position_or_len p text
+at_position p text = let le = prefix_len-le-length (λ x. not (p x)) text in grind (arith, nat_tests, common_steps)
 
-  pub blank_passed : blank (get_or text i 0) ≡ true → past_blanks (drop (i + 1) text) ≡ past_blanks (drop i text)
-  blank_passed is = sym (ap past_blanks opened ∙ cond-true _ _ _ is)
+module _ (p : ℕ → Bool) where
+  -- the text is at its end, or goes on with a byte that passes
+  abbrev pub Stops : List ℕ → Type 0
+  Stops [] = ⊤
+  Stops (b ∷ text) = p b ≡ true
 
-  pub byte_passed : blank (get_or text i 0) ≡ false → past_word (drop (i + 1) text) ≡ past_word (drop i text)
-  byte_passed is = sym (ap past_word opened ∙ cond-false _ _ _ is)
+  -- no byte before that place passes, and the one there does
+  pub before_fails : (text : List ℕ) → All (λ b. IsFalse (p b)) (take (position_or_len p text) text)
+  before_fails text = λ k d l. grind (arith, places, fails_before_first p text k d)
 
-  pub byte_taken : blank (get_or text i 0) ≡ false → take (i + 1) text ++ front_word (drop (i + 1) text) ≡ take i text ++ front_word (drop i text)
-  byte_taken is =
-      let word : front_word (drop i text) ≡ get_or text i 0 ∷ front_word (drop (i + 1) text) = ap front_word opened ∙ cond-false _ _ _ is in
-      ap (λ l. l ++ front_word (drop (i + 1) text)) (take_more text i 0 inside) ∙ append_assoc (take i text) _ _ ∙ ap (λ l. take i text ++ l) (sym word)
+  pub there_stops : (text : List ℕ) → Stops (drop (position_or_len p text) text)
+  there_stops [] = tt
+  there_stops (b ∷ text) =
+      cond_both (not (p b)) (1 + position_or_len p text) 0 (λ n. Stops (drop n (b ∷ text))) (λ _. subst Stops (drop-drop (position_or_len p text) 1 (b ∷ text)) (there_stops text)) (λ is. grind arith)
 
-  pub blanks_end : blank (get_or text i 0) ≡ false → past_blanks (drop i text) ≡ drop i text
-  blanks_end is = ap past_blanks opened ∙ cond-false _ _ _ is ∙ sym opened
+  -- and where that holds, it is the place
+  pub place_is : (front rest : List ℕ) → All (λ b. IsFalse (p b)) front → Stops rest → position_or_len p (front ++ rest) ≡ length front
+  place_is front [] fails stops = position_or_len_is p (front ++ []) (length front) 0 (grind (arith, places)) (λ k l. rw get_or_append_left (fails k 0 l)) (λ l. absurd (grind (arith, places)))
+  place_is front (b ∷ rest) fails stops = position_or_len_is p (front ++ b ∷ rest) (length front) 0 (grind (arith, places)) (λ k l. rw get_or_append_left (fails k 0 l)) (λ l. grind (arith, places))
 
-  pub word_ends : blank (get_or text i 0) ≡ true → front_word (drop i text) ≡ []
-  word_ends is = ap front_word opened ∙ cond-true _ _ _ is
-
-  pub rest_begins : blank (get_or text i 0) ≡ true → past_word (drop i text) ≡ drop i text
-  rest_begins is = ap past_word opened ∙ cond-true _ _ _ is ∙ sym opened
-
-module _ (text : List ℕ) (i : ℕ) (outside : length text ≤ i) where
-  closed : drop i text ≡ []
-  closed = drop_all i text outside
-
-  pub blanks_out : past_blanks (drop i text) ≡ drop i text
-  blanks_out = ap past_blanks closed ∙ sym closed
-
-  pub word_out : front_word (drop i text) ≡ []
-  word_out = ap front_word closed
-
-  pub rest_out : past_word (drop i text) ≡ drop i text
-  rest_out = ap past_word closed ∙ sym closed
-
--- the text does not begin with a blank
-abbrev pub Fresh : List ℕ → Type 0
-Fresh [] = Unit {0}
-Fresh (b ∷ text) = blank b ≡ false
-
-pub past_fresh : (text : List ℕ) → Fresh (past_blanks text)
-past_fresh [] = tt
-past_fresh (b ∷ text) = cond_both (blank b) (past_blanks text) (b ∷ text) Fresh (λ _. past_fresh text) (λ is. is)
-
-pub past_shorter : (text : List ℕ) → length (past_blanks text) ≤ length text
-past_shorter [] = omega arith
-past_shorter (b ∷ text) =
-    cond_both (blank b) (past_blanks text) (b ∷ text) (λ t. length t ≤ length (b ∷ text)) (λ _. omega (arith, past_shorter text)) (λ _. omega arith)
+  -- it is past the first byte where that one does not pass
+  pub place_past : (text : List ℕ) → 0 < length text → p (get_or text 0 0) ≡ false → 0 < position_or_len p text
+  place_past [] some is = absurd (omega arith)
+  place_past (b ∷ text) some is = rw is (omega arith)

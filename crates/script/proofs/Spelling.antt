@@ -1,12 +1,13 @@
 -- What a text spells, worked out from its front, and that this is what `Spells` says.
-use Rattle.std.proofs.Common.{◌≡◌, ℕ, ◌+◌, ◌-◌, ◌*◌, ◌<◌, ◌≤◌, true, false, cond, ◌⊎◌, List, [], ◌∷◌, ◌++◌, length, get_or, take, drop, is_some, Some, None, Option, sym, refl, ap, ◌∙◌, subst, inl, inr, ⊎_elim, append_assoc, append-nil, arith}
+use Rattle.std.proofs.Common.{◌≡◌, ℕ, ◌+◌, ◌*◌, ◌<◌, true, false, not, cond, ◌⊎◌, List, [], ◌∷◌, ◌++◌, length, drop, is_some, Some, None, Option, sym, refl, ap, ◌∙◌, subst, inl, inr, ⊎_elim, append_assoc, append-nil, arith}
 use Rattle.std.specs.Option.{option_map}
-use Rattle.std.proofs.lemmas.List.{take_all}
+use Rattle.std.specs.List.{position_or_len}
+use Rattle.std.proofs.lemmas.List.{drop-drop}
 use Rattle.std.proofs.lemmas.Bool.Decides.{nat_tests}
-use Rattle.std.proofs.lemmas.Bool.{cond-true, cond-false, cond_both, cases_Bool}
+use Rattle.std.proofs.lemmas.Bool.{cond-true, cond-false, cond_both, cases_Bool, not-true, not-false}
 use Rattle.script.specs.Words.{blank, past_blanks}
 use Rattle.script.specs.Hex.{digit_value, both_digits, byte_value, leading_pair, Spells, no_more, after_blank, pair, OneSpelling, Opens}
-use Rattle.script.proofs.Scanning.{Fresh, past_fresh}
+use Rattle.script.proofs.Parting.{solid, Fresh, past_fresh}
 
 -- one byte in front of the others
 abbrev then : Option ℕ → Option (List ℕ) → Option (List ℕ)
@@ -31,7 +32,9 @@ spelt_blank b (x ∷ text) is = cond-true _ _ _ is
 pub spelt_past : (text : List ℕ) → spelt (past_blanks text) ≡ spelt text
 spelt_past [] = refl
 spelt_past (b ∷ text) =
-    cond_both (blank b) (past_blanks text) (b ∷ text) (λ t. spelt t ≡ spelt (b ∷ text)) (λ is. spelt_past text ∙ sym (spelt_blank b text is)) (λ _. refl)
+    cond_both (not (solid b)) (1 + position_or_len solid text) 0 (λ n. spelt (drop n (b ∷ text)) ≡ spelt (b ∷ text))
+    (λ is. ap spelt (sym (drop-drop (position_or_len solid text) 1 (b ∷ text))) ∙ spelt_past text ∙ sym (spelt_blank b text (not-false _ (not-true _ is))))
+    (λ _. refl)
 
 pub complete : {text bytes : List ℕ} → Spells text bytes → spelt text ≡ Some bytes
 complete no_more = refl
@@ -77,14 +80,6 @@ sound (a ∷ b ∷ text) bytes e =
 pub one_spelling : OneSpelling
 one_spelling text xs ys s t = let p = complete s in let q = complete t in cc
 
--- `first_pair` gives what stands in front
-pub led : (text : List ℕ) (value : ℕ) → 2 ≤ length text → byte_value (get_or text 0 0) (get_or text 1 0) ≡ Some value → Some (value, take (length text - 2) (drop 2 text)) ≡ leading_pair text
-led [] value long is = absurd (omega arith)
-led (a ∷ []) value long is = absurd (omega arith)
-led (a ∷ b ∷ text) value long is =
-    let whole : take (length (a ∷ b ∷ text) - 2) text ≡ text = take_all _ text (omega arith) in
-    ap (λ t. Some (value, t)) whole ∙ sym (ap (option_map (λ v. (v, text))) is)
-
 -- a value before a text
 abbrev before : List ℕ → ℕ → ℕ × List ℕ
 before text value = (value, text)
@@ -116,9 +111,9 @@ spelt_pair (a ∷ b ∷ text) value rest e =
 -- a text that begins with neither a blank nor a pair spells nothing
 pub spelt_none : (text : List ℕ) → 0 < length text → Fresh text → leading_pair text ≡ None → spelt text ≡ None
 spelt_none [] some is e = absurd (omega arith)
-spelt_none (a ∷ []) some is e = cond-false _ _ _ is
+spelt_none (a ∷ []) some is e = cond-false _ _ _ (not-true _ is)
 spelt_none (a ∷ b ∷ text) some is e =
-    cond-false _ _ _ is ∙ ap (λ o. then o (spelt text)) (no_pair (byte_value a b) text e)
+    cond-false _ _ _ (not-true _ is) ∙ ap (λ o. then o (spelt text)) (no_pair (byte_value a b) text e)
 
 -- The text spells these bytes, and then what the rest of it spells.
 pub record Sofar (text bytes rest : List ℕ) : Type 0 where
@@ -160,8 +155,3 @@ stuck text bytes rest h some e bs s =
     let none = h.split ∙ ap (option_map (λ xs. bytes ++ xs)) (spelt_none rest some h.fresh e) in
     let p = complete s in
     grind arith
-
-pub pair_shorter : (text : List ℕ) (value : ℕ) (rest : List ℕ) → leading_pair text ≡ Some (value, rest) → length rest < length text
-pair_shorter [] value rest e = absurd (grind arith)
-pair_shorter (a ∷ []) value rest e = absurd (grind arith)
-pair_shorter (a ∷ b ∷ text) value rest e = omega (arith, ap length (pair_front (byte_value a b) text value rest e).1)

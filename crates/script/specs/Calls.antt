@@ -1,8 +1,8 @@
 -- What a line of a script says.
 use Rattle.std.specs.Prelude.{◌≡◌, ℕ, Bool, true, List, [], ◌∷◌, ◌++◌, Some, None, vec_items, codes, Option, ◌==◌}
 use Rattle.script.specs.declared.keyword.Keyword.{Keyword}
-use Rattle.script.specs.declared.line.Line.{Line}
-use Rattle.script.specs.declared.line.Line.TheVariants.{Nothing, Scheme, List as Listing, Unreadable}
+use Rattle.script.specs.declared.line.Call.{Call as Asked}
+use Rattle.script.specs.declared.line.Call.TheVariants.{Scheme, List as Listing}
 use Rattle.script.specs.Words.{Blanks, Begins}
 use Rattle.script.specs.Keywords.{spelling}
 use Rattle.script.specs.Hex.{Spells, Opens}
@@ -46,11 +46,13 @@ pub record Wanting (line : List ℕ) : Type 0 where
   pub wants : Wants key rest
 
 -- The call that a reader's answer stands for.
-abbrev pub call_of : Line → Option Call
-call_of Nothing = Some nothing
-call_of (Scheme tape) = Some (scheme (vec_items tape))
-call_of Listing = Some list
-call_of Unreadable = None
+abbrev pub asked_call : Asked → Call
+asked_call (Scheme tape) = scheme (vec_items tape)
+asked_call Listing = list
+
+abbrev pub call_of : Option Asked → Call
+call_of None = nothing
+call_of (Some asked) = asked_call asked
 
 -- Past its blanks, a line that says nothing is at its end, or goes on with `#`.
 abbrev pub silent : List ℕ → Bool

@@ -1,14 +1,15 @@
 -- What bytes a text of hex digits spells.
-use Rattle.std.specs.Prelude.{◌≡◌, ℕ, ◌+◌, ◌-◌, ◌*◌, true, cond, ◌&&◌, List, [], ◌∷◌, is_some, Some, None, Option, nat_le}
+use Rattle.std.specs.Prelude.{◌≡◌, ℕ, ◌+◌, ◌-◌, ◌*◌, true, if◌then◌else◌, ◌&&◌, List, [], ◌∷◌, is_some, Some, None, Option, nat_le}
 use Rattle.std.specs.Option.{option_map}
 use Rattle.script.specs.Words.{blank, past_blanks}
 
 -- The value of a hex digit: `0` to `9`, `a` to `f`, `A` to `F`. Any other byte has none.
 abbrev pub digit_value : ℕ → Option ℕ
 digit_value b =
-    cond (nat_le 48 b && nat_le b 57) (Some (b - 48))
-    (cond (nat_le 97 b && nat_le b 102) (Some (b - 97 + 10))
-    (cond (nat_le 65 b && nat_le b 70) (Some (b - 65 + 10)) None))
+    if nat_le 48 b && nat_le b 57 then Some (b - 48)
+    else if nat_le 97 b && nat_le b 102 then Some (b - 97 + 10)
+    else if nat_le 65 b && nat_le b 70 then Some (b - 65 + 10)
+    else None
 
 -- `Spells text bytes`: the text has a pair of digits for each of the bytes, in their order.
 pub data Spells : List ℕ → List ℕ → Type 0 where

@@ -1,4 +1,5 @@
 pub mod Finds
+pub mod Reads
 pub mod Words
 pub mod Hex
 pub mod Numbers

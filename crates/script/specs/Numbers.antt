@@ -1,9 +1,9 @@
 -- What number a word of decimal digits writes.
-use Rattle.std.specs.Prelude.{◌≡◌, ℕ, ◌+◌, ◌-◌, ◌*◌, ◌^◌, cond, ◌&&◌, List, [], ◌∷◌, length, Some, None, Option, nat_le}
+use Rattle.std.specs.Prelude.{◌≡◌, ℕ, ◌+◌, ◌-◌, ◌*◌, ◌^◌, if◌then◌else◌, ◌&&◌, List, [], ◌∷◌, length, Some, None, Option, nat_le}
 
 -- The value of a decimal digit, `0` to `9`. Any other byte has none.
 abbrev pub decimal_value : ℕ → Option ℕ
-decimal_value b = cond (nat_le 48 b && nat_le b 57) (Some (b - 48)) None
+decimal_value b = if nat_le 48 b && nat_le b 57 then Some (b - 48) else None
 
 -- `Number word n`: the word is one digit or more, and writes the number n.
 pub data Number : List ℕ → ℕ → Type 0 where

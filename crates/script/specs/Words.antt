@@ -1,5 +1,6 @@
 -- How a line falls into words.
-use Rattle.std.specs.Prelude.{◌≡◌, ℕ, Bool, true, false, cond, ◌||◌, List, [], ◌∷◌, ◌++◌, ◌==◌}
+use Rattle.std.specs.Prelude.{◌≡◌, ℕ, ◌<◌, Bool, not, ◌||◌, List, [], ◌∷◌, ◌++◌, ◌==◌, length, drop, ⊤, IsTrue, IsFalse, All}
+use Rattle.std.specs.List.{AllPass, before_first, position_or_len}
 
 -- A blank is a space, a tab or a carriage return.
 abbrev pub blank : ℕ → Bool
@@ -7,23 +8,20 @@ blank b = b == 32 || (b == 9 || b == 13)
 
 -- Every byte is a blank.
 abbrev pub Blanks : List ℕ → Type 0
-Blanks [] = Unit {0}
-Blanks (b ∷ text) = (blank b ≡ true) × Blanks text
+Blanks text = AllPass blank text
 
 -- No byte is a blank.
 abbrev pub Solid : List ℕ → Type 0
-Solid [] = Unit {0}
-Solid (b ∷ text) = (blank b ≡ false) × Solid text
+Solid text = All (λ b. IsFalse (blank b)) text
 
 -- A word has at least one byte, and no blank.
 abbrev pub Word : List ℕ → Type 0
-Word [] = ⊥
-Word (b ∷ text) = Solid (b ∷ text)
+Word text = (0 < length text) × Solid text
 
 -- A word before this text is over: the text is at its end, or begins with a blank.
 abbrev pub Over : List ℕ → Type 0
-Over [] = Unit {0}
-Over (b ∷ text) = blank b ≡ true
+Over [] = ⊤
+Over (b ∷ text) = IsTrue (blank b)
 
 -- `Begins line word rest`: the line is a margin of blanks, then its first word, then the rest.
 pub record Begins (line word rest : List ℕ) : Type 0 where
@@ -43,15 +41,12 @@ pub record Alone (text word : List ℕ) : Type 0 where
 
 -- The text from its first byte on that is no blank.
 abbrev pub past_blanks : List ℕ → List ℕ
-past_blanks [] = []
-past_blanks (b ∷ text) = cond (blank b) (past_blanks text) (b ∷ text)
+past_blanks text = drop (position_or_len (λ b. not (blank b)) text) text
 
 -- The bytes of a text before its first blank.
 abbrev pub front_word : List ℕ → List ℕ
-front_word [] = []
-front_word (b ∷ text) = cond (blank b) [] (b ∷ front_word text)
+front_word text = before_first blank text
 
 -- The text from its first blank on.
 abbrev pub past_word : List ℕ → List ℕ
-past_word [] = []
-past_word (b ∷ text) = cond (blank b) (b ∷ text) (past_word text)
+past_word text = drop (position_or_len blank text) text

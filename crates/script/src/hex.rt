@@ -1,31 +1,25 @@
 // Reads bytes that are written as pairs of hex digits.
-ghost use Rattle.std.specs.Prelude.{◌≡◌, IfOk, vec_items, OnErr};
+ghost use Rattle.std.specs.Prelude.{◌≡◌, vec_items};
 ghost use Rattle.std.specs.Option.{option_map};
 ghost use Rattle.script.specs.Finds.{Finds};
+ghost use Rattle.script.specs.Reads.{Reads};
 ghost use Rattle.script.specs.Hex.{digit_value, byte_value, leading_pair, Mask, Spells, OneSpelling, Opens};
 
+use crate::error::ReadError;
 use crate::words::past_blanks;
-use std::alloc::{AllocError, Global};
+use std::alloc::Global;
 
 fn digit(b: u8) -> Option<u8>
     ensures { result ≡ digit_value b }
 {
-    match b {
-        b'0'..=b'9' => Some(b - b'0'),
-        b'a'..=b'f' => Some(b - b'a' + 10),
-        b'A'..=b'F' => Some(b - b'A' + 10),
-        _ => None,
-    }
+    char::from(b).to_digit(16).map(|value| value as u8)
 }
 
 // The byte that two digits spell.
 fn byte(a: u8, b: u8) -> Option<u8>
     ensures { result ≡ byte_value a b }
 {
-    match (digit(a), digit(b)) {
-        (Some(high), Some(low)) => Some(16 * high + low),
-        _ => None,
-    }
+    Some(16 * digit(a)? + digit(b)?)
 }
 
 // The byte that the first two digits of a text spell, and the text after them.
@@ -35,29 +29,23 @@ fn first_pair(text: &[u8]) -> Option<(u8, &[u8])>
     let [a, b, rest @ ..] = text else {
         return None;
     };
-    match byte(*a, *b) {
-        Some(value) => Some((value, rest)),
-        None => None,
-    }
+    Some((byte(*a, *b)?, rest))
 }
 
-// The bytes that a text spells, or `None` where it is not written in pairs. Memory can be wanting only
-// once there is a first pair.
-pub fn read_hex(heap: Global, text: &[u8]) -> Result<Option<Vec<u8>>, AllocError>
-    ensures spelt { IfOk result (λ o. Finds (Spells text.now) (option_map vec_items o)) }
+// The bytes that a text spells. Memory can be wanting only once there is a first pair.
+#[tactic(auto, using(crate::proofs::Spelling::one_spelling))]
+pub fn read_hex(heap: Global, text: &[u8]) -> Result<Vec<u8>, ReadError>
+    ensures read { Reads vec_items (Spells text.now) (Opens text.now) result }
     ensures one { OneSpelling }
-    ensures memory { OnErr result (Opens text.now) }
 {
     let mut bytes = Vec::new(heap);
     let mut rest = past_blanks(text);
     while !rest.is_empty() {
-        let Some((value, after)) = first_pair(rest) else {
-            return Ok(None);
-        };
+        let (value, after) = first_pair(rest).ok_or(ReadError::Unreadable)?;
         bytes.push(value)?;
         rest = past_blanks(after);
     }
-    Ok(Some(bytes))
+    Ok(bytes)
 }
 
 // The mask that a word of four digits spells.
@@ -67,7 +55,5 @@ pub(crate) fn read_mask(word: &[u8]) -> Option<u16>
     let [a, b, c, d] = word else {
         return None;
     };
-    let high = byte(*a, *b)?;
-    let low = byte(*c, *d)?;
-    Some(256 * u16::from(high) + u16::from(low))
+    Some(u16::from_be_bytes([byte(*a, *b)?, byte(*c, *d)?]))
 }

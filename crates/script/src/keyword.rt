@@ -12,11 +12,9 @@ pub(crate) enum Keyword {
 pub(crate) fn find_keyword(word: &[u8]) -> Option<Keyword>
     ensures { Finds (λ k. word.now ≡ spelling k) result }
 {
-    if word == b"scheme".as_slice() {
-        Some(Keyword::Scheme)
-    } else if word == b"list".as_slice() {
-        Some(Keyword::List)
-    } else {
-        None
+    match word {
+        b"scheme" => Some(Keyword::Scheme),
+        b"list" => Some(Keyword::List),
+        _ => None,
     }
 }

@@ -1,6 +1,7 @@
 // Reads one line of a script.
 #![tactic(auto)]
 
+mod error;
 mod hex;
 mod keyword;
 mod line;
@@ -8,5 +9,6 @@ mod number;
 mod settings;
 mod words;
 
+pub use error::ReadError;
 pub use hex::read_hex;
-pub use line::{Line, read_line};
+pub use line::{Call, read_line};

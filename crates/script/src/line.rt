@@ -1,52 +1,45 @@
 // Reads what a line of a script says.
-ghost use Rattle.std.specs.Prelude.{◌≡◌, IfOk, OnErr};
-ghost use Rattle.script.specs.Calls.{Asks, Says, OneCall, Wants, Wanting, call_of, silent};
-ghost use Rattle.script.specs.Finds.{Finds};
+ghost use Rattle.std.specs.Prelude.{◌≡◌};
+ghost use Rattle.script.specs.Calls.{Asks, Says, OneCall, Wants, Wanting, asked_call, call_of, silent};
+ghost use Rattle.script.specs.Reads.{Reads};
 
+use crate::error::ReadError;
 use crate::hex::read_hex;
 use crate::keyword::{Keyword, find_keyword};
 use crate::words::{only_blanks, past_blanks, split_word};
-use std::alloc::{AllocError, Global};
+use std::alloc::Global;
 
 #[derive(Drop)]
-pub enum Line {
-    // Blanks only, or a remark.
-    Nothing,
+pub enum Call {
     // The tape of a new scheme.
     Scheme(Vec<u8>),
     List,
-    Unreadable,
 }
 
-fn read_scheme(heap: Global, rest: &[u8]) -> Result<Line, AllocError>
-    ensures asked { IfOk result (λ l. Finds (Asks Keyword.Scheme rest.now) (call_of l)) }
-    ensures memory { OnErr result (Wants Keyword.Scheme rest.now) }
+fn read_scheme(heap: Global, rest: &[u8]) -> Result<Call, ReadError>
+    ensures { Reads asked_call (Asks Keyword.Scheme rest.now) (Wants Keyword.Scheme rest.now) result }
 {
-    match read_hex(heap, rest)? {
-        Some(tape) => Ok(Line::Scheme(tape)),
-        None => Ok(Line::Unreadable),
-    }
+    Ok(Call::Scheme(read_hex(heap, rest)?))
 }
 
 // A list takes no words.
-fn read_list(rest: &[u8]) -> Line
-    ensures { Finds (Asks Keyword.List rest.now) (call_of result) }
+fn read_list(rest: &[u8]) -> Result<Call, ReadError>
+    ensures { Reads asked_call (Asks Keyword.List rest.now) (Wants Keyword.List rest.now) result }
 {
     if only_blanks(rest) {
-        Line::List
+        Ok(Call::List)
     } else {
-        Line::Unreadable
+        Err(ReadError::Unreadable)
     }
 }
 
 // What a keyword asks for with `rest` after it.
-fn read_call(heap: Global, key: Keyword, rest: &[u8]) -> Result<Line, AllocError>
-    ensures asked { IfOk result (λ l. Finds (Asks key rest.now) (call_of l)) }
-    ensures memory { OnErr result (Wants key rest.now) }
+fn read_call(heap: Global, key: Keyword, rest: &[u8]) -> Result<Call, ReadError>
+    ensures { Reads asked_call (Asks key rest.now) (Wants key rest.now) result }
 {
     match key {
         Keyword::Scheme => read_scheme(heap, rest),
-        Keyword::List => Ok(read_list(rest)),
+        Keyword::List => read_list(rest),
     }
 }
 
@@ -54,25 +47,20 @@ fn read_call(heap: Global, key: Keyword, rest: &[u8]) -> Result<Line, AllocError
 fn is_silent(text: &[u8]) -> bool
     ensures { result ≡ silent text.now }
 {
-    match text {
-        [] => true,
-        [first, ..] => *first == b'#',
-    }
+    matches!(text, [] | [b'#', ..])
 }
 
-// What a line says. Memory can be wanting only for the tape of a scheme.
-pub fn read_line(heap: Global, line: &[u8]) -> Result<Line, AllocError>
-    ensures said { IfOk result (λ l. Finds (Says line.now) (call_of l)) }
+// What a line calls for, if it is no blank line and no remark. Memory can be wanting only for the tape of a scheme.
+#[tactic(auto, using(crate::proofs::Saying::one_call))]
+pub fn read_line(heap: Global, line: &[u8]) -> Result<Option<Call>, ReadError>
+    ensures said { Reads call_of (Says line.now) (Wanting line.now) result }
     ensures one { OneCall }
-    ensures memory { OnErr result (Wanting line.now) }
 {
     let text = past_blanks(line);
     if is_silent(text) {
-        return Ok(Line::Nothing);
+        return Ok(None);
     }
     let (word, rest) = split_word(text);
-    match find_keyword(word) {
-        Some(key) => read_call(heap, key, rest),
-        None => Ok(Line::Unreadable),
-    }
+    let key = find_keyword(word).ok_or(ReadError::Unreadable)?;
+    Ok(Some(read_call(heap, key, rest)?))
 }

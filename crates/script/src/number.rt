@@ -3,27 +3,18 @@ ghost use Rattle.std.specs.Prelude.{◌≡◌, ◌≤◌};
 ghost use Rattle.script.specs.Finds.{Finds};
 ghost use Rattle.script.specs.Numbers.{decimal_value, Longer, Number};
 
-fn decimal(b: u8) -> Option<u8>
+fn decimal(b: u8) -> Option<u32>
     ensures { result ≡ decimal_value b }
 {
-    match b {
-        b'0'..=b'9' => Some(b - b'0'),
-        _ => None,
-    }
+    char::from(b).to_digit(10)
 }
 
 // A number with one more digit after it, if that is at most `most`.
 fn with_digit(number: u32, b: u8, most: u32) -> Option<u32>
     ensures { Finds (λ n. Longer number b n × (n ≤ most)) result }
 {
-    let value = decimal(b)?;
-    // In 64 bits the next number always fits.
-    let longer = 10 * u64::from(number) + u64::from(value);
-    if longer <= u64::from(most) {
-        Some(longer as u32)
-    } else {
-        None
-    }
+    let longer = number.checked_mul(10)?.checked_add(decimal(b)?)?;
+    (longer <= most).then_some(longer)
 }
 
 // The number that a word writes, if it is at most `most`. More digits never make a number less, so the

@@ -1,5 +1,5 @@
 // Reads what a script sets: where cells are to be kept, and a filter.
-ghost use Rattle.std.specs.Prelude.{ℕ, codes, Decides};
+ghost use Rattle.std.specs.Prelude.{◌↔◌, ℕ, codes, IsTrue};
 ghost use Rattle.script.specs.Finds.{Finds};
 ghost use Rattle.script.specs.Settings.{Filters, Sized};
 ghost use Rattle.script.specs.Words.{Alone};
@@ -10,12 +10,9 @@ use crate::words::{first_word, lone_word};
 
 // `board`, and nothing else.
 pub(crate) fn is_board(rest: &[u8]) -> bool
-    ensures { Decides result (Alone rest.now (codes "board")) }
+    ensures { IsTrue result ↔ Alone rest.now (codes "board") }
 {
-    match lone_word(rest) {
-        Some(word) => word == b"board".as_slice(),
-        None => false,
-    }
+    lone_word(rest) == Some(b"board".as_slice())
 }
 
 // How many records are to be in the list, where the text is `list` and a number.

@@ -1,5 +1,5 @@
 // How a line falls into words.
-ghost use Rattle.std.specs.Prelude.{◌≡◌, ℕ, List, Decides};
+ghost use Rattle.std.specs.Prelude.{◌≡◌, ◌↔◌, ℕ, List, IsTrue};
 ghost use Rattle.std.specs.Option.{option_map};
 ghost use Rattle.script.specs.Finds.{Finds};
 ghost use Rattle.script.specs.Words.{Alone, Begins, Blanks, blank, past_blanks, front_word, past_word};
@@ -7,18 +7,18 @@ ghost use Rattle.script.specs.Words.{Alone, Begins, Blanks, blank, past_blanks, 
 pub(crate) fn is_blank(b: u8) -> bool
     ensures { result ≡ blank b }
 {
-    b == b' ' || b == b'\t' || b == b'\r'
+    matches!(b, b' ' | b'\t' | b'\r')
 }
 
 // The text from its first byte on that is no blank.
 pub(crate) fn past_blanks(text: &[u8]) -> &[u8]
     ensures { result.now ≡ past_blanks text.now }
 {
-    let mut at = 0;
-    while at < text.len() && is_blank(text[at]) {
-        at += 1;
-    }
-    &text[at..]
+    let start = text
+        .iter()
+        .position(|b| !is_blank(*b))
+        .unwrap_or(text.len());
+    &text[start..]
 }
 
 // The bytes before the first blank, and the text from there on.
@@ -26,17 +26,14 @@ pub(crate) fn split_word(text: &[u8]) -> (&[u8], &[u8])
     ensures word { result.0.now ≡ front_word text.now }
     ensures rest { result.1.now ≡ past_word text.now }
 {
-    let mut at = 0;
-    while at < text.len() && !is_blank(text[at]) {
-        at += 1;
-    }
-    text.split_at(at)
+    let end = text.iter().position(|b| is_blank(*b)).unwrap_or(text.len());
+    text.split_at(end)
 }
 
 pub(crate) fn only_blanks(text: &[u8]) -> bool
-    ensures { Decides result (Blanks text.now) }
+    ensures { IsTrue result ↔ Blanks text.now }
 {
-    past_blanks(text).is_empty()
+    text.iter().all(|b| is_blank(*b))
 }
 
 // The first word of a text, and the text after it.
@@ -56,5 +53,5 @@ pub(crate) fn lone_word(text: &[u8]) -> Option<&[u8]>
     ensures { Finds (Alone text.now) (option_map (λ x. x.now) result) }
 {
     let (word, rest) = first_word(text)?;
-    if only_blanks(rest) { Some(word) } else { None }
+    only_blanks(rest).then_some(word)
 }

@@ -3,31 +3,29 @@
 
 #[cfg(test)]
 mod tests {
-    use script::{Line, read_hex, read_line};
-    use std::alloc::{AllocError, Global};
+    use script::{Call, ReadError, read_hex, read_line};
+    use std::alloc::Global;
     use std::process::Abort;
     use std::test::Fail;
 
-    fn kind(heap: Global, line: &[u8]) -> Result<&'static str, AllocError> {
-        match read_line(heap, line)? {
-            Line::Nothing => Ok("nothing"),
-            Line::Scheme(_) => Ok("scheme"),
-            Line::List => Ok("list"),
-            Line::Unreadable => Ok("unreadable"),
+    fn kind(heap: Global, line: &[u8]) -> &'static str {
+        match read_line(heap, line) {
+            Ok(None) => "nothing",
+            Ok(Some(Call::Scheme(_))) => "scheme",
+            Ok(Some(Call::List)) => "list",
+            Err(ReadError::Unreadable) => "unreadable",
+            Err(ReadError::OutOfMemory) => "out of memory",
         }
     }
 
-    fn is_scheme(heap: Global, line: &[u8], tape: &[u8]) -> Result<bool, AllocError> {
-        match read_line(heap, line)? {
-            Line::Scheme(bytes) => Ok(bytes.as_slice() == tape),
-            _ => Ok(false),
-        }
+    fn is_scheme(heap: Global, line: &[u8], tape: &[u8]) -> bool {
+        matches!(read_line(heap, line), Ok(Some(Call::Scheme(bytes))) if bytes.as_slice() == tape)
     }
 
     // Each of the lines is of the one kind.
     fn all_are(rt: &impl Abort, heap: Global, expected: &str, lines: &[&str]) -> Result<(), Fail> {
         for line in lines {
-            assert_eq!(rt; kind(heap, line.as_bytes())?, expected);
+            assert_eq!(rt; kind(heap, line.as_bytes()), expected);
         }
         Ok(())
     }
@@ -50,9 +48,9 @@ mod tests {
     #[test]
     fn schemes(rt: HostRuntime) -> Result<(), Fail> {
         let heap = rt.alloc();
-        assert!(rt; is_scheme(heap, b"scheme", &[])?);
-        assert!(rt; is_scheme(heap, b"scheme 10aF", &[16, 175])?);
-        assert!(rt; is_scheme(heap, b" \tscheme\t09 fF\tAb \r", &[9, 255, 171])?);
+        assert!(rt; is_scheme(heap, b"scheme", &[]));
+        assert!(rt; is_scheme(heap, b"scheme 10aF", &[16, 175]));
+        assert!(rt; is_scheme(heap, b" \tscheme\t09 fF\tAb \r", &[9, 255, 171]));
         Ok(())
     }
 
@@ -84,7 +82,7 @@ mod tests {
 
     #[test]
     fn hex_alone(rt: HostRuntime) -> Result<(), Fail> {
-        let bytes = read_hex(rt.alloc(), b" 00\r7E ")?.ok_or("two bytes are spelt")?;
+        let bytes = read_hex(rt.alloc(), b" 00\r7E ").map_err(|_| "two bytes are spelt")?;
         assert!(rt; bytes.as_slice() == [0, 126].as_slice());
         Ok(())
     }

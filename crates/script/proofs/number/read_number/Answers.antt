@@ -1,22 +1,14 @@
-use Rattle.std.proofs.Common.{sym, ◌∙◌, arith, true-eqb, false-eqb}
+use Rattle.std.proofs.Common.{sym, ◌∙◌, arith, false-eqb}
 use Rattle.std.proofs.lemmas.List.{at_drop_all}
 use Rattle.script.proofs.Finding.{finds_none}
-use Rattle.script.proofs.Numbering.{worth, worth_is, number_from, longer, no_longer, not_empty}
+use Rattle.script.proofs.Numbering.{worth, worth_is, number_from, no_longer}
 use Rattle.script.proofs.number.read_number.Goals as goal
-
-pub returns-then-is_empty : goal.returns-then-is_empty
-returns-then-is_empty c = λ n found. omega (arith, not_empty found.0, true-eqb _ 0 c.if-is_empty.ensures)
 
 pub returns-in_err-number : goal.returns-in_err-number
 returns-in_err-number c =
     finds_none _ _ c.from_residual.ensures
     (λ n found.
     no_longer _ _ _ c.loop-b-test.true _ c.in_err-number.ensures n (c.loop-b.invariant.1 ∙ worth_is found.0) found.1)
-
-pub loop-b-preserved : goal.loop-b-preserved
-loop-b-preserved c =
-    let found = c.in_ok-number.ensures in
-    (found.1, longer _ _ _ c.loop-b-test.true _ found.0 ∙ c.loop-b.invariant.1)
 
 pub returns : goal.returns
 returns c =

@@ -1,12 +1,11 @@
-use Rattle.std.proofs.Common.{length, ap, ◌∙◌, arith, true-eqb, false-eqb}
+use Rattle.std.proofs.Common.{ap, ◌∙◌, arith, true-eqb, false-eqb}
 use Rattle.script.specs.Words.{front_word, past_word}
-use Rattle.script.proofs.Parting.{begins_with, word_some, word_is}
+use Rattle.script.proofs.Parting.{begins_with, no_word}
 use Rattle.script.proofs.words.first_word.Goals as goal
 
 pub returns-then-is_empty : goal.returns-then-is_empty
 returns-then-is_empty c = λ p b.
-    let word = c.split_word.ensures.word ∙ ap front_word c.past_blanks.ensures ∙ word_is _ _ _ b in
-    omega (arith, true-eqb _ 0 c.if-is_empty.ensures, word_some _ b.solid, ap length word)
+    no_word _ _ _ _ (c.split_word.ensures.word ∙ ap front_word c.past_blanks.ensures) (true-eqb _ 0 c.if-is_empty.ensures) b
 
 pub returns-else-is_empty : goal.returns-else-is_empty
 returns-else-is_empty c =

@@ -1,24 +1,17 @@
-use Rattle.std.proofs.Common.{◌≡◌, drop, sym, ◌∙◌, arith}
+use Rattle.std.proofs.Common.{◌≡◌, not, length, drop, unwrap_or, ap, ◌∙◌, rules, tests}
+use Rattle.std.specs.Prelude.{position}
+use Rattle.std.proofs.lemmas.Iterator.{YieldsList-from_slice}
+use Rattle.std.proofs.lemmas.Iterator.Search.{position_from_yields_List}
 use Rattle.std.proofs.lemmas.List.{take_rest}
-use Rattle.script.specs.Words.{past_blanks}
-use Rattle.script.proofs.Scanning.{blank_passed, blanks_end, blanks_out}
+use Rattle.script.specs.Words.{blank}
+use Rattle.script.proofs.Scanning.{at_position}
 use Rattle.script.proofs.words.past_blanks.Goals as goal
-use Rattle.script.proofs.words.past_blanks.Goals.{then-loop-at-test+else-is_blank, else-loop-at-test}
-
-pub loop-at-preserved : goal.loop-at-preserved
-loop-at-preserved c = (
-  omega arith,
-  blank_passed _ _ c.loop-at-test.true (sym c.if-is_blank.ensures) ∙ c.loop-at.invariant.1,
-)
 
 pub returns : goal.returns
 returns c =
     let text = c.args.text.now in
-    let at = c.loop-at.at in
-    let stopped : past_blanks (drop at text) ≡ drop at text =
-    elim c.loop-at-test.branch [
-      | then-loop-at-test+else-is_blank w ↦ blanks_end _ _ w.loop-at-test.true (sym w.if-is_blank.ensures)
-      | else-loop-at-test w ↦ blanks_out _ _ w.loop-at-test.false
-    ]
+    let found : c.position.result ≡ position (λ b. not (blank b)) text =
+    position_from_yields_List _ _ _ c.position.result c.position.ensures.ran (YieldsList-from_slice text c.iter.ensures.rest) (λ x b q k. search (rules, tests))
     in
-    take_rest text at ∙ sym stopped ∙ c.loop-at.invariant.1
+    let start = c.unwrap_or-start.ensures ∙ ap (λ o. unwrap_or o (length text)) found ∙ at_position (λ b. not (blank b)) text in
+    take_rest text c.unwrap_or-start.result ∙ ap (λ n. drop n text) start
