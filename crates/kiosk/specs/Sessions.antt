@@ -2,6 +2,7 @@
 use Rattle.std.specs.Prelude.{◌≡◌, ℕ, List, length, Some, None, Option, Result, Ok, Err}
 use Rattle.std.specs.Option.{option_map}
 use Rattle.model.specs.Answers as Answers
+use Rattle.model.specs.Counts.{counts_by}
 use Rattle.model.specs.Faults.{layer_number, reason_number}
 use Rattle.model.specs.declared.counts.Counts.{Counts}
 use Rattle.scheme.specs.Commands.{Command}
@@ -44,7 +45,7 @@ state_of s = option_map commands_of s.scheme
 
 -- Attributes 0 and 3 are ladders of eight values, 1 and 2 are labels, of which there are sixteen.
 abbrev pub kiosk_counts : Counts
-kiosk_counts = record { a0 = 8; a1 = 16; a2 = 16; a3 = 8 }
+kiosk_counts = counts_by 8 16 16 8
 
 -- What is said of a reading, and what it leaves: an accepted scheme takes the place of the old, a refused one does not.
 abbrev pub told : Answers.Answer (List Command) → Said

@@ -54,10 +54,11 @@ impl Session {
     pub fn answer_line(&mut self, heap: Global, line: &[u8]) -> Result<Option<Answer>, AllocError>
         ensures { MatchResult result (λ a. LineAnswered (state_of self.old) line.now (said a) (state_of self.new)) (λ _. self.new ≡ self.old) }
     {
+        // An error goes two ways, so no `From` turns it over.
         match read_line(heap, line) {
             Ok(call) => Ok(self.answer(call)),
             Err(ReadError::Unreadable) => Ok(Some(Err(Refusal::BadLine))),
-            Err(ReadError::OutOfMemory) => Err(AllocError),
+            Err(ReadError::OutOfMemory(cause)) => Err(cause),
         }
     }
 }

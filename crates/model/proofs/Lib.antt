@@ -1,3 +1,1 @@
-pub mod Cases
-pub mod Finite
 pub mod Labels16

@@ -33,7 +33,8 @@ abbrev pub lowest : List (ℕ × Bool) → Option ℕ
 lowest [] = None
 lowest (rule ∷ rules) = cond rule.1 (Some rule.0) (lowest rules)
 
--- what a change leaves: the old where a rule is broken, else the new
+-- What a change leaves: the old where a rule is broken, else the new. Contracts say what is answered and what is left in two
+-- clauses, so that each fails under its own name.
 abbrev pub unless : {X : Type 0} → Option ℕ → (old new : X) → X
 unless None old new = new
 unless (Some rule) old new = old

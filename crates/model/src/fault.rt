@@ -2,98 +2,69 @@
 ghost use Rattle.std.specs.Prelude.{◌≡◌};
 ghost use Rattle.model.specs.Faults.{layer_number, reason_number};
 
-#[derive(Clone, Copy)]
+#[derive(Clone, Copy, Debug, PartialEq, Eq)]
 pub enum Layer {
-    Scheme,
-    Opening,
-    Certificate,
-    Bans,
-    Register,
-    Checker,
-    Parts,
+    Scheme = 1,
+    Opening = 2,
+    Certificate = 3,
+    Bans = 4,
+    Register = 5,
+    Checker = 6,
+    Parts = 7,
 }
 
-impl Layer {
-    pub fn number(self) -> u8
-        ensures { result ≡ layer_number self }
-    {
-        match self {
-            Layer::Scheme => 1,
-            Layer::Opening => 2,
-            Layer::Certificate => 3,
-            Layer::Bans => 4,
-            Layer::Register => 5,
-            Layer::Checker => 6,
-            Layer::Parts => 7,
-        }
+// The number of the layer in a refusal. Kinds, layers and reasons each have such a `From`: one for all three would be generic
+// over types, and overlap the library's own.
+impl From<Layer> for u8 {
+    ghost from_gives = { λ layer n. n ≡ layer_number layer };
+
+    fn from(layer: Layer) -> u8 {
+        layer as u8
     }
 }
 
 // The rule that was broken.
-#[derive(Clone, Copy)]
+#[derive(Clone, Copy, Debug, PartialEq, Eq)]
 pub enum Reason {
-    TapeTooLong,
-    NoOrder,
-    OutOfPlace,
-    TooMany,
-    OutOfRange,
-    ParameterRule,
-    UnfitReference,
-    OpeningTooLarge,
-    NoSuchCommand,
-    WrongNumberOfNames,
-    NoSuchName,
-    RepeatedName,
-    WrongPresence,
-    NotASubject,
-    TestFails,
-    StoreTooSmall,
-    NotContained,
-    NotClosed,
-    BanMet,
-    BufferTooSmall,
-    NoCertificate,
-    BoardSize,
-    ListSize,
-    NoSuchAttribute,
+    TapeTooLong = 1,
+    NoOrder = 2,
+    OutOfPlace = 3,
+    TooMany = 4,
+    OutOfRange = 5,
+    ParameterRule = 6,
+    UnfitReference = 7,
+    OpeningTooLarge = 8,
+    NoSuchCommand = 9,
+    WrongNumberOfNames = 10,
+    NoSuchName = 11,
+    RepeatedName = 12,
+    WrongPresence = 13,
+    NotASubject = 14,
+    TestFails = 15,
+    StoreTooSmall = 16,
+    NotContained = 17,
+    NotClosed = 18,
+    BanMet = 19,
+    BufferTooSmall = 20,
+    NoCertificate = 21,
+    BoardSize = 22,
+    ListSize = 23,
+    NoSuchAttribute = 24,
 }
 
-impl Reason {
-    pub fn number(self) -> u8
-        ensures { result ≡ reason_number self }
-    {
-        match self {
-            Reason::TapeTooLong => 1,
-            Reason::NoOrder => 2,
-            Reason::OutOfPlace => 3,
-            Reason::TooMany => 4,
-            Reason::OutOfRange => 5,
-            Reason::ParameterRule => 6,
-            Reason::UnfitReference => 7,
-            Reason::OpeningTooLarge => 8,
-            Reason::NoSuchCommand => 9,
-            Reason::WrongNumberOfNames => 10,
-            Reason::NoSuchName => 11,
-            Reason::RepeatedName => 12,
-            Reason::WrongPresence => 13,
-            Reason::NotASubject => 14,
-            Reason::TestFails => 15,
-            Reason::StoreTooSmall => 16,
-            Reason::NotContained => 17,
-            Reason::NotClosed => 18,
-            Reason::BanMet => 19,
-            Reason::BufferTooSmall => 20,
-            Reason::NoCertificate => 21,
-            Reason::BoardSize => 22,
-            Reason::ListSize => 23,
-            Reason::NoSuchAttribute => 24,
-        }
+// The number of the rule.
+impl From<Reason> for u8 {
+    ghost from_gives = { λ reason n. n ≡ reason_number reason };
+
+    fn from(reason: Reason) -> u8 {
+        reason as u8
     }
 }
 
-#[derive(Clone, Copy)]
+#[derive(Clone, Copy, Debug, PartialEq, Eq)]
 pub struct Fault {
     pub layer: Layer,
     pub reason: Reason,
+    // 0 where there is no place, as refusals are written.
     pub place: u16,
 }

@@ -10,7 +10,7 @@ pub struct Labels;
 impl Scale for Labels {
     const COUNT: u8 = 16;
 
-    ghost count = { 16 };
+    ghost COUNT = { 16 };
 
     ghost covering = { labels_cover };
 
@@ -18,10 +18,7 @@ impl Scale for Labels {
 
     ghost few = { Prim.search rules };
 
-    fn value_count() -> u8 {
-        Self::COUNT
-    }
-
+    // Every scale looks at the bounds first, since its relation is one of values only.
     fn covers(a: u8, b: u8) -> bool {
         a < Self::COUNT && b < Self::COUNT && a & b == b
     }

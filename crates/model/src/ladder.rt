@@ -10,17 +10,13 @@ pub struct Ladder;
 impl Scale for Ladder {
     const COUNT: u8 = 8;
 
-    ghost count = { 8 };
+    ghost COUNT = { 8 };
 
     ghost covering = { ladder_covers };
 
     ghost some = { Prim.search rules };
 
     ghost few = { Prim.search rules };
-
-    fn value_count() -> u8 {
-        Self::COUNT
-    }
 
     fn covers(a: u8, b: u8) -> bool {
         a < Self::COUNT && b < Self::COUNT && a >= b

@@ -2,22 +2,19 @@
 ghost use Rattle.std.specs.Prelude.{◌≡◌, ℕ, ◌≤◌, Bool, ◌&&◌, nat_lt};
 
 pub trait Scale {
-    // How many values there are; they are the numbers below it. This is the one place that has the number.
+    // How many values there are; they are the numbers below it. Clauses name the ghost member, and the check compares the
+    // two numbers.
     const COUNT: u8;
 
-    ghost count: { ℕ };
+    ghost COUNT: { ℕ };
 
     ghost covering: { ℕ → ℕ → Bool };
 
-    // Hands out COUNT, and so ties it to the ghost member: no clause can name an associated constant.
-    fn value_count() -> u8
-        ensures { result ≡ count };
-
-    // Whether both are values and the first covers the second. Null is no value.
+    // Whether both are values and the first covers the second.
     fn covers(a: u8, b: u8) -> bool
-        ensures { result ≡ (nat_lt a count && (nat_lt b count && covering a b)) };
+        ensures { result ≡ (nat_lt a COUNT && (nat_lt b COUNT && covering a b)) };
 
-    ghost some: { 1 ≤ count };
+    ghost some: { 1 ≤ COUNT };
 
-    ghost few: { count ≤ 16 };
+    ghost few: { COUNT ≤ 16 };
 }

@@ -4,37 +4,28 @@ ghost use Rattle.model.specs.Stamps.{attribute_of};
 
 use crate::kind::Kind;
 
-// A value of an attribute's scale, or null, which is no value of any scale.
+// A value of an attribute's scale. Where an attribute may be null, it is an `Option<Value>`.
 pub type Value = u8;
-
-pub const NULL: Value = 255;
 
 // Attributes are numbered 0 to 3.
 pub type Attribute = u8;
 
 pub const ATTRIBUTES: Attribute = 4;
 
-// Attribute k is the field a and then k.
-#[derive(Clone, Copy, PartialEq, Eq)]
+// One of something for each attribute, in the order of their numbers. A constant can't call `from`, so its type is cast.
+pub type PerAttribute<T> = [T; ATTRIBUTES as usize];
+
+#[derive(Clone, Copy, Debug, PartialEq, Eq)]
 pub struct Stamp {
     pub kind: Kind,
-    pub a0: Value,
-    pub a1: Value,
-    pub a2: Value,
-    pub a3: Value,
+    pub attributes: PerAttribute<Option<Value>>,
 }
 
 impl Stamp {
     // An attribute that does not exist reads as null.
-    pub fn attribute(&self, k: Attribute) -> Value
+    pub fn attribute(&self, k: Attribute) -> Option<Value>
         ensures { result ≡ attribute_of self.now k }
     {
-        match k {
-            0 => self.a0,
-            1 => self.a1,
-            2 => self.a2,
-            3 => self.a3,
-            _ => NULL,
-        }
+        self.attributes.get(usize::from(k)).copied().flatten()
     }
 }

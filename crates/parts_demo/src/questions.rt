@@ -4,31 +4,28 @@ use model::kind::Kind;
 use model::labels::Labels;
 use model::ladder::Ladder;
 use model::mask::Right;
-use model::stamp::{NULL, Stamp, Value};
+use model::stamp::{Stamp, Value};
 use rulings::pile::{FilterMasks, four_filters};
 use rulings::question::Question;
 use rulings::ruling::ask;
 use std::io;
-use words::value::ValueOrNull;
+use words::InWords;
 
 // The grade of the row, the grade of the column, and the right.
-const QUESTIONS: [(Value, Value, Right); 7] = [
-    (3, 1, 0),
-    (1, 1, 0),
-    (1, 3, 0),
-    (1, 3, 1),
-    (NULL, 1, 0),
-    (3, 1, 2),
-    (3, 1, 16),
+const QUESTIONS: [(Option<Value>, Option<Value>, Right); 7] = [
+    (Some(3), Some(1), 0),
+    (Some(1), Some(1), 0),
+    (Some(1), Some(3), 0),
+    (Some(1), Some(3), 1),
+    (None, Some(1), 0),
+    (Some(3), Some(1), 2),
+    (Some(3), Some(1), 16),
 ];
 
-fn of_grade(kind: Kind, grade: Value) -> Stamp {
+fn of_grade(kind: Kind, grade: Option<Value>) -> Stamp {
     Stamp {
         kind,
-        a0: grade,
-        a1: NULL,
-        a2: NULL,
-        a3: NULL,
+        attributes: [grade, None, None, None],
     }
 }
 
@@ -36,8 +33,7 @@ fn of_grade(kind: Kind, grade: Value) -> Stamp {
 pub(crate) fn show_pile(rt: &HostRuntime) -> io::Result<()> {
     println!(rt; "the pile, with right 0 filtered by attribute 0, over a cell 0003:")?;
     let masks = FilterMasks {
-        m0: 0x0001,
-        ..FilterMasks::none()
+        each: [0x0001, 0, 0, 0],
     };
     let pile = four_filters::<Ladder, Labels, Labels, Ladder>(masks);
     for (row, column, right) in QUESTIONS {
@@ -50,8 +46,8 @@ pub(crate) fn show_pile(rt: &HostRuntime) -> io::Result<()> {
             cell: 0x0003,
         };
         let answer = yes_or_no(ask(&pile, &question));
-        let above = ValueOrNull(row);
-        let below = ValueOrNull(column);
+        let above = InWords(row);
+        let below = InWords(column);
         println!(rt; "  right {right}, grade {above} to grade {below}: {answer}")?;
     }
     Ok(())

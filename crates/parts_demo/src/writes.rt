@@ -19,6 +19,7 @@ const WRITES: [(Name, Name, Mask); 8] = [
     (0, 64, 0x0000),
 ];
 
+// `bool` is not ours, so a `Display` would take a type of its own for two words.
 pub(crate) fn yes_or_no(answer: bool) -> &'static str
     ensures { result.now ≡ (if answer then codes "yes" else codes "no") }
 {

@@ -16,13 +16,11 @@ pub fn read(tape: &[u8]) -> Result<Scheme, Fault> {
     read_scheme::<Ladder, Labels, Labels, Ladder>(tape)
 }
 
-// 0 for an accepted tape, else the fault's layer, number and place in one number, as LNNPPPPP in decimal.
-pub fn verdict(tape: &[u8]) -> u32 {
+// Nothing for an accepted tape, else the fault's layer, number and place.
+pub fn verdict(tape: &[u8]) -> Result<(), (u8, u8, u16)> {
     match read(tape) {
-        Ok(_) => 0,
-        Err(f) => 10000000 * u32::from(f.layer.number())
-            + 100000 * u32::from(f.reason.number())
-            + u32::from(f.place),
+        Ok(_) => Ok(()),
+        Err(fault) => Err((u8::from(fault.layer), u8::from(fault.reason), fault.place)),
     }
 }
 
@@ -34,11 +32,9 @@ pub fn repeated(
     times: usize,
     tail: &[u8],
 ) -> Result<Vec<u8>, AllocError> {
-    let mut tape = Vec::new(heap);
-    tape.extend_from_slice(head)?;
-    for _ in 0..times {
-        tape.extend_from_slice(part)?;
-    }
+    let mut tape = head.to_vec(heap)?;
+    let parts = part.repeat(heap, times)?;
+    tape.extend_from_slice(parts.as_slice())?;
     tape.extend_from_slice(tail)?;
     Ok(tape)
 }

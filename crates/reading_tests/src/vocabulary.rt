@@ -1,12 +1,12 @@
 // Scales at their edges, masks, bounded lists, and the table of orders.
-use model::bounded::Bounded;
+use model::bounded::{Bounded, Full};
 use model::counts::Counts;
 use model::kind::Kind;
 use model::labels::Labels;
 use model::ladder::Ladder;
 use model::mask::holds;
 use model::scale::Scale;
-use model::stamp::{NULL, Stamp};
+use model::stamp::Stamp;
 use std::test::Fail;
 use tapes::order::Order;
 use tapes::orders::Orders;
@@ -16,7 +16,7 @@ use tapes::tape::Tape;
 #[test]
 fn ladder(rt: HostRuntime) {
     assert!(rt; Ladder::covers(7, 0) && Ladder::covers(3, 3) && !Ladder::covers(2, 3));
-    assert!(rt; !Ladder::covers(8, 0) && !Ladder::covers(NULL, 0) && !Ladder::covers(0, NULL));
+    assert!(rt; !Ladder::covers(8, 0) && !Ladder::covers(255, 0) && !Ladder::covers(0, 255));
 }
 
 #[test]
@@ -30,9 +30,9 @@ fn counts_of_the_kiosk(rt: HostRuntime) {
     let counts = Counts::of::<Ladder, Labels, Labels, Ladder>();
     assert!(rt; counts.is_value(0, 7) && !counts.is_value(0, 8) && counts.is_value(1, 8));
     assert!(rt;
-        counts.is_null_or_value(3, NULL)
-            && !counts.is_value(3, NULL)
-            && !counts.is_null_or_value(4, NULL)
+        counts.is_null_or_value(3, None)
+            && !counts.is_value(3, 255)
+            && !counts.is_null_or_value(4, None)
     );
 }
 
@@ -46,19 +46,19 @@ fn masks(rt: HostRuntime) {
 fn stamps(rt: HostRuntime) {
     let stamp = Stamp {
         kind: Kind::Object,
-        a0: 3,
-        a1: 9,
-        a2: NULL,
-        a3: 7,
+        attributes: [Some(3), Some(9), None, Some(7)],
     };
-    assert_eq!(rt; stamp.kind.number(), 2);
-    assert!(rt; stamp.attribute(0) == 3 && stamp.attribute(3) == 7 && stamp.attribute(4) == NULL);
+    assert_eq!(rt; u8::from(stamp.kind), 2);
+    assert_eq!(rt;
+        [0, 3, 4].map(|k| stamp.attribute(k)),
+        [Some(3), Some(7), None]
+    );
 }
 
 #[test]
 fn bounded_lists(rt: HostRuntime) {
     let mut list: Bounded<u8, 2> = Bounded::empty(0);
-    assert!(rt; list.push(5) && list.push(6) && !list.push(7));
+    assert!(rt; list.push(5).is_ok() && list.push(6).is_ok() && list.push(7) == Err(Full));
     assert_eq!(rt; list.len(), 2);
     assert_eq!(rt; list.as_slice().last().copied(), Some(6));
 }
@@ -67,9 +67,7 @@ fn bounded_lists(rt: HostRuntime) {
 fn orders(rt: HostRuntime) -> Result<(), Fail> {
     assert!(rt; row_of(0x51).is_some() && row_of(0x35).is_none());
     let tape = [0x1F, 0x60, 1, 2, 3, 4, 5];
-    let Ok(ban) = Tape::Bans.order_at(&tape, 1) else {
-        return Err(Fail::new("no order"));
-    };
+    let ban = Tape::Bans.order_at(&tape, 1)?;
     assert!(rt; ban.offset == 1 && ban.size == 6);
     assert!(rt; matches!(ban.order, Order::Ban(_)));
     assert!(rt;
@@ -81,9 +79,7 @@ fn orders(rt: HostRuntime) -> Result<(), Fail> {
 #[test]
 fn orders_of_a_tape(rt: HostRuntime) -> Result<(), Fail> {
     let tape = [0x10, 1, 0, 0x34, 0, 0x1F, 0x60, 0x1F];
-    let Ok(mut orders) = Orders::of(&tape, Tape::Scheme) else {
-        return Err(Fail::new("too long"));
-    };
+    let mut orders = Orders::of(&tape, Tape::Scheme)?;
     assert_eq!(rt; orders.end(), 8);
     for offset in [0, 3, 5] {
         assert!(rt; matches!(orders.next(), Some(Ok(placed)) if placed.offset == offset));

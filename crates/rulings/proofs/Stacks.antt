@@ -7,9 +7,9 @@ use Rattle.rulings.specs.declared.filter.AttributeFilter.{AttributeFilter}
 use Rattle.rulings.specs.declared.matrix.MatrixRuling.{MatrixRuling}
 use Rattle.rulings.specs.declared.pile.FilterMasks.{FilterMasks}
 use Rattle.rulings.specs.declared.question.Question.{Question}
-use Rattle.rulings.specs.Filters.{filter_by, passes}
-use Rattle.rulings.specs.PileMasks.{no_masks}
-use Rattle.rulings.specs.Piles.{pile_says, stack_says, FiltersBy}
+use Rattle.rulings.specs.Filters.{filter_by, filter_says, passes}
+use Rattle.rulings.specs.PileMasks.{mask_of, no_masks}
+use Rattle.rulings.specs.Piles.{four_scales, pile_says}
 use Rattle.rulings.specs.Questions.{held}
 
 -- the empty mask has no right
@@ -25,7 +25,11 @@ regrouped false a b c d = refl
 regrouped true a b c d =
     and_comm (d && c && b) a ∙ ap (λ x. a && x) (and_comm (d && c) b ∙ ap (λ x. b && x) (and_comm d c))
 
-pub each_asked : {S0 S1 S2 S3 : Type 0} (s0 s1 s2 s3 : ℕ → ℕ → Bool) (m : FilterMasks) (matrix : MatrixRuling) (f : AttributeFilter S0 (AttributeFilter S1 (AttributeFilter S2 (AttributeFilter S3 MatrixRuling)))) → f ≡ filter_by 0 m.m0 (filter_by 1 m.m1 (filter_by 2 m.m2 (filter_by 3 m.m3 matrix))) → FiltersBy s0 s1 s2 s3 m f
+-- what four filters say, the first over the second and so on, the last over the matrix
+abbrev pub stack_says : {S0 S1 S2 S3 : Type 0} → (s0 s1 s2 s3 : ℕ → ℕ → Bool) → AttributeFilter S0 (AttributeFilter S1 (AttributeFilter S2 (AttributeFilter S3 MatrixRuling))) → Question → Bool
+stack_says s0 s1 s2 s3 = filter_says s0 (filter_says s1 (filter_says s2 (filter_says s3 (λ _ q. held q))))
+
+pub each_asked : {S0 S1 S2 S3 : Type 0} (s0 s1 s2 s3 : ℕ → ℕ → Bool) (m : FilterMasks) (matrix : MatrixRuling) (f : AttributeFilter S0 (AttributeFilter S1 (AttributeFilter S2 (AttributeFilter S3 MatrixRuling)))) → f ≡ filter_by 0 (mask_of m 0) (filter_by 1 (mask_of m 1) (filter_by 2 (mask_of m 2) (filter_by 3 (mask_of m 3) matrix))) → (q : Question) → stack_says s0 s1 s2 s3 f q ≡ pile_says (four_scales s0 s1 s2 s3) m q
 each_asked s0 s1 s2 s3 m matrix f made q =
     ap (λ x. stack_says s0 s1 s2 s3 x q) made
-    ∙ regrouped (held q) (passes s0 0 m.m0 q) (passes s1 1 m.m1 q) (passes s2 2 m.m2 q) (passes s3 3 m.m3 q)
+    ∙ regrouped (held q) (passes s0 0 (mask_of m 0) q) (passes s1 1 (mask_of m 1) q) (passes s2 2 (mask_of m 2) q) (passes s3 3 (mask_of m 3) q)

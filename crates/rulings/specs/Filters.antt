@@ -1,7 +1,7 @@
 -- What a filter by one attribute asks of a question, and what it answers.
-use Rattle.std.specs.Prelude.{ℕ, Bool, not, ◌&&◌, ◌||◌, ◌==◌, nat_lt}
+use Rattle.std.specs.Prelude.{ℕ, Bool, false, not, ◌&&◌, ◌||◌, Some, None, Option, is_none, nat_lt}
 use Rattle.model.specs.Masks.{has}
-use Rattle.model.specs.Stamps.{attribute_of, null}
+use Rattle.model.specs.Stamps.{attribute_of}
 use Rattle.rulings.specs.declared.filter.AttributeFilter.{AttributeFilter}
 use Rattle.rulings.specs.declared.question.Question.{Question}
 
@@ -9,16 +9,22 @@ use Rattle.rulings.specs.declared.question.Question.{Question}
 abbrev pub covers_in : (count : ℕ) → (covering : ℕ → ℕ → Bool) → (a b : ℕ) → Bool
 covers_in count covering a b = nat_lt a count && (nat_lt b count && covering a b)
 
+-- neither is null, and the first covers the second
+abbrev pub both_cover : (covers : ℕ → ℕ → Bool) → (a b : Option ℕ) → Bool
+both_cover covers None b = false
+both_cover covers (Some a) None = false
+both_cover covers (Some a) (Some b) = covers a b
+
 -- the right is not among these rights, or the row's value of attribute k covers the column's
 abbrev pub passes : (covers : ℕ → ℕ → Bool) → (k rights : ℕ) → Question → Bool
 passes covers k rights q =
-    not (has rights q.right) || covers (attribute_of q.row_stamp k) (attribute_of q.column_stamp k)
+    not (has rights q.right) || both_cover covers (attribute_of q.row_stamp k) (attribute_of q.column_stamp k)
 
 -- the right is among these rights, and the row's or the column's value of attribute k is null
 abbrev pub meets_null : (k rights : ℕ) → Question → Bool
 meets_null k rights q =
     has rights q.right
-    && (attribute_of q.row_stamp k == null || attribute_of q.column_stamp k == null)
+    && (is_none (attribute_of q.row_stamp k) || is_none (attribute_of q.column_stamp k))
 
 -- the filter by this attribute, for these rights, over this ruling; its scale is a type and has no values
 abbrev pub filter_by : {S R : Type 0} → (attribute rights : ℕ) → (below : R) → AttributeFilter S R

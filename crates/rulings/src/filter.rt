@@ -21,6 +21,7 @@ pub struct AttributeFilter<S: Scale, R: Ruling> {
     scale: PhantomData<S>,
 }
 
+// Written by hand, since a derive would ask `Drop` of the scale too, of which there is never a value.
 impl<S: Scale, R: Ruling + Drop> Drop for AttributeFilter<S, R> {
     fn drop(self) {
         let AttributeFilter {
@@ -70,20 +71,24 @@ impl<S: Scale, R: Ruling + Drop> AttributeFilter<S, R> {
     }
 }
 
+// `covers_in` and its two arguments stand in each contract here and in the pile: a word of specs/ can't take a scale as a type.
 impl<S: Scale, R: Ruling> Ruling for AttributeFilter<S, R> {
-    ghost says = { filter_says (covers_in S.Scale.count S.Scale.covering) R.Ruling.says };
+    ghost says = { filter_says (covers_in S.Scale.COUNT S.Scale.covering) R.Ruling.says };
 
     ghost grants = { Prim.search rules };
 
     // For the filter's rights, null on either side is a no.
     fn allows(&self, question: &Question) -> bool
-        ensures answer { result ≡ filter_says (covers_in S.Scale.count S.Scale.covering) R.Ruling.says self.now question.now }
+        ensures answer { result ≡ filter_says (covers_in S.Scale.COUNT S.Scale.covering) R.Ruling.says self.now question.now }
         ensures nulls { (result && meets_null self.now.attribute self.now.rights question.now) ≡ false }
     {
         let below = self.below.allows(question);
         let row = question.row_stamp.attribute(self.attribute);
         let column = question.column_stamp.attribute(self.attribute);
-        let passed = !holds(self.rights, question.right) || S::covers(row, column);
+        let covered = row
+            .zip(column)
+            .is_some_and(|(row, column)| S::covers(row, column));
+        let passed = !holds(self.rights, question.right) || covered;
         below && passed
     }
 }

@@ -4,7 +4,7 @@ ghost use Rattle.model.specs.Answers.{answer};
 ghost use Rattle.rulings.specs.Attributes.{if_attribute};
 ghost use Rattle.rulings.specs.Filters.{covers_in};
 ghost use Rattle.rulings.specs.PileMasks.{no_masks, with_mask};
-ghost use Rattle.rulings.specs.Piles.{four_scales, pile_says, FiltersBy};
+ghost use Rattle.rulings.specs.Piles.{four_scales, pile_says};
 ghost use Rattle.rulings.specs.Questions.{held};
 ghost use Rattle.rulings.specs.declared.question.Question.{Question};
 
@@ -15,15 +15,12 @@ use crate::ruling::{Ruling, ask};
 use model::fault::Fault;
 use model::mask::Mask;
 use model::scale::Scale;
-use model::stamp::Attribute;
+use model::stamp::{ATTRIBUTES, Attribute, PerAttribute};
 
-// For the rights in the field m and then k, attribute k is looked at. A mask of 0 filters nothing.
-#[derive(Clone, Copy)]
+// For the rights in its mask, an attribute is looked at. A mask of 0 filters nothing.
+#[derive(Clone, Copy, Debug, PartialEq, Eq)]
 pub struct FilterMasks {
-    pub m0: Mask,
-    pub m1: Mask,
-    pub m2: Mask,
-    pub m3: Mask,
+    pub each: PerAttribute<Mask>,
 }
 
 impl FilterMasks {
@@ -33,10 +30,7 @@ impl FilterMasks {
         ensures unfiltered { (covers : ℕ → ℕ → ℕ → Bool) (q : Question) → pile_says covers result q ≡ held q }
     {
         FilterMasks {
-            m0: 0,
-            m1: 0,
-            m2: 0,
-            m3: 0,
+            each: [0; ATTRIBUTES as usize],
         }
     }
 
@@ -45,12 +39,8 @@ impl FilterMasks {
         ensures answer { answer (λ done. done) result ≡ if_attribute k tt }
         ensures masks { self.new ≡ with_mask self.old k mask }
     {
-        match filter_attribute(k)? {
-            0 => self.m0 = mask,
-            1 => self.m1 = mask,
-            2 => self.m2 = mask,
-            _ => self.m3 = mask,
-        }
+        let known = filter_attribute(k)?;
+        self.each[usize::from(known)] = mask;
         Ok(())
     }
 }
@@ -65,12 +55,13 @@ pub type FourFilters<S0, S1, S2, S3> = AttributeFilter<
 pub fn four_filters<S0: Scale, S1: Scale, S2: Scale, S3: Scale>(
     masks: FilterMasks,
 ) -> FourFilters<S0, S1, S2, S3>
-    ensures { FiltersBy (covers_in S0.Scale.count S0.Scale.covering) (covers_in S1.Scale.count S1.Scale.covering) (covers_in S2.Scale.count S2.Scale.covering) (covers_in S3.Scale.count S3.Scale.covering) masks result }
+    ensures { (q : Question) → ⟦<FourFilters<S0, S1, S2, S3> as Ruling>⟧.says result q ≡ pile_says (four_scales (covers_in S0.Scale.COUNT S0.Scale.covering) (covers_in S1.Scale.COUNT S1.Scale.covering) (covers_in S2.Scale.COUNT S2.Scale.covering) (covers_in S3.Scale.COUNT S3.Scale.covering)) masks q }
 {
-    let by_three = AttributeFilter::over(3, masks.m3, MatrixRuling);
-    let by_two = AttributeFilter::over(2, masks.m2, by_three);
-    let by_one = AttributeFilter::over(1, masks.m1, by_two);
-    AttributeFilter::over(0, masks.m0, by_one)
+    let [m0, m1, m2, m3] = masks.each;
+    let by_three = AttributeFilter::over(3, m3, MatrixRuling);
+    let by_two = AttributeFilter::over(2, m2, by_three);
+    let by_one = AttributeFilter::over(1, m1, by_two);
+    AttributeFilter::over(0, m0, by_one)
 }
 
 // Makes the pile for these masks and puts one question to it.
@@ -78,7 +69,7 @@ pub fn ask_four<S0: Scale, S1: Scale, S2: Scale, S3: Scale>(
     masks: FilterMasks,
     question: &Question,
 ) -> bool
-    ensures { result ≡ pile_says (four_scales (covers_in S0.Scale.count S0.Scale.covering) (covers_in S1.Scale.count S1.Scale.covering) (covers_in S2.Scale.count S2.Scale.covering) (covers_in S3.Scale.count S3.Scale.covering)) masks question.now }
+    ensures { result ≡ pile_says (four_scales (covers_in S0.Scale.COUNT S0.Scale.covering) (covers_in S1.Scale.COUNT S1.Scale.covering) (covers_in S2.Scale.COUNT S2.Scale.covering) (covers_in S3.Scale.COUNT S3.Scale.covering)) masks question.now }
 {
     ask(&four_filters::<S0, S1, S2, S3>(masks), question)
 }

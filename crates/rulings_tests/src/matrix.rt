@@ -5,7 +5,7 @@ use rulings::ruling::{Ruling, ask};
 
 #[test]
 fn rights(rt: HostRuntime) {
-    let entry = stamp(0, 0, 0, 0);
+    let entry = stamp([Some(0), Some(0), Some(0), Some(0)]);
     for (right, cell, answer) in [
         (0, 0xFFFF, true),
         (15, 0xFFFF, true),
@@ -24,7 +24,7 @@ fn rights(rt: HostRuntime) {
 
 #[test]
 fn names_make_no_difference(rt: HostRuntime) {
-    let entry = stamp(0, 0, 0, 0);
+    let entry = stamp([Some(0), Some(0), Some(0), Some(0)]);
     for name in [0, 63, 64, 255] {
         let mut question = question(3, 0x0008, entry, entry);
         question.row = name;

@@ -3,7 +3,6 @@ use crate::questions::{question, stamp};
 use model::fault::Fault;
 use model::labels::Labels;
 use model::ladder::Ladder;
-use model::stamp::NULL;
 use rulings::filter::AttributeFilter;
 use rulings::matrix::MatrixRuling;
 use rulings::pile::{FilterMasks, FourFilters, ask_four, four_filters};
@@ -26,21 +25,24 @@ fn three() -> Result<Three, Fault> {
 
 #[test]
 fn three_filters(rt: HostRuntime) -> Result<(), Fail> {
-    let Ok(pile) = three() else {
-        return Err(Fail::new("refused"));
-    };
+    let pile = three()?;
     for (right, cell, column, answer) in [
-        (0, 1, stamp(NULL, 1, 8, 5), true),
-        (1, 2, stamp(NULL, 1, 8, 5), false),
-        (1, 2, stamp(NULL, 4, 1, 5), true),
-        (0, 1, stamp(NULL, 4, 1, 5), false),
-        (1, 2, stamp(NULL, 4, 8, 6), false),
+        (0, 1, stamp([None, Some(1), Some(8), Some(5)]), true),
+        (1, 2, stamp([None, Some(1), Some(8), Some(5)]), false),
+        (1, 2, stamp([None, Some(4), Some(1), Some(5)]), true),
+        (0, 1, stamp([None, Some(4), Some(1), Some(5)]), false),
+        (1, 2, stamp([None, Some(4), Some(8), Some(6)]), false),
         // The cell is asked at the bottom of the pile.
-        (0, 2, stamp(NULL, 1, 8, 5), false),
+        (0, 2, stamp([None, Some(1), Some(8), Some(5)]), false),
         // No filter concerns right 2.
-        (2, 4, stamp(7, 7, 7, 7), true),
+        (2, 4, stamp([Some(7), Some(7), Some(7), Some(7)]), true),
     ] {
-        let asked = question(right, cell, stamp(NULL, 6, 8, 5), column);
+        let asked = question(
+            right,
+            cell,
+            stamp([None, Some(6), Some(8), Some(5)]),
+            column,
+        );
         assert_eq!(rt; ask(&pile, &asked), answer);
     }
     Ok(())
@@ -50,7 +52,12 @@ fn three_filters(rt: HostRuntime) -> Result<(), Fail> {
 fn four_without_masks(rt: HostRuntime) {
     let pile: Kiosk = four_filters(FilterMasks::none());
     for (right, cell, answer) in [(15, 0x8000, true), (15, 0x7FFF, false), (16, 0xFFFF, false)] {
-        let asked = question(right, cell, stamp(NULL, 0, 16, 0), stamp(7, 15, 15, NULL));
+        let asked = question(
+            right,
+            cell,
+            stamp([None, Some(0), Some(16), Some(0)]),
+            stamp([Some(7), Some(15), Some(15), None]),
+        );
         assert_eq!(rt; pile.allows(&asked), answer);
     }
 }
@@ -60,12 +67,17 @@ fn four_with_one_mask(rt: HostRuntime) {
     let mut masks = FilterMasks::none();
     assert!(rt; masks.set(2, 0x0010).is_ok());
     for (right, column, answer) in [
-        (4, stamp(7, 15, 2, 7), true),
-        (4, stamp(0, 0, 1, 0), false),
-        (4, stamp(0, 0, NULL, 0), false),
-        (3, stamp(0, 0, 1, 0), true),
+        (4, stamp([Some(7), Some(15), Some(2), Some(7)]), true),
+        (4, stamp([Some(0), Some(0), Some(1), Some(0)]), false),
+        (4, stamp([Some(0), Some(0), None, Some(0)]), false),
+        (3, stamp([Some(0), Some(0), Some(1), Some(0)]), true),
     ] {
-        let asked = question(right, 0xFFFF, stamp(0, 0, 6, 0), column);
+        let asked = question(
+            right,
+            0xFFFF,
+            stamp([Some(0), Some(0), Some(6), Some(0)]),
+            column,
+        );
         assert_eq!(rt;
             ask_four::<Ladder, Labels, Labels, Ladder>(masks, &asked),
             answer
@@ -83,12 +95,9 @@ fn setting_masks(rt: HostRuntime) -> Result<(), Fail> {
         let Err(fault) = masks.set(k, 99) else {
             return Err(Fail::new("accepted"));
         };
-        assert_eq!(rt; fault.reason.number(), 24);
+        assert_eq!(rt; u8::from(fault.reason), 24);
         assert_eq!(rt; fault.place, u16::from(k));
     }
-    assert_eq!(rt; masks.m0, 10);
-    assert_eq!(rt; masks.m1, 11);
-    assert_eq!(rt; masks.m2, 12);
-    assert_eq!(rt; masks.m3, 13);
+    assert_eq!(rt; masks.each, [10, 11, 12, 13]);
     Ok(())
 }

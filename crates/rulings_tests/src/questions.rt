@@ -1,16 +1,13 @@
 // Questions for the tests.
 use model::kind::Kind;
 use model::mask::{Mask, Right};
-use model::stamp::{Stamp, Value};
+use model::stamp::{PerAttribute, Stamp, Value};
 use rulings::question::Question;
 
-pub fn stamp(a0: Value, a1: Value, a2: Value, a3: Value) -> Stamp {
+pub fn stamp(attributes: PerAttribute<Option<Value>>) -> Stamp {
     Stamp {
         kind: Kind::Subject,
-        a0,
-        a1,
-        a2,
-        a3,
+        attributes,
     }
 }
 

@@ -1,2 +1,1 @@
-pub mod Any
 pub mod Growing

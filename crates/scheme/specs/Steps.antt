@@ -1,14 +1,12 @@
 -- The rules on one step of a command.
 use Rattle.std.specs.Prelude.{ℕ, Bool, true, false, not, ◌&&◌, ◌||◌, List, ◌==◌, nat_lt}
+use Rattle.std.specs.List.{list_any}
 use Rattle.model.specs.declared.counts.Counts.{Counts}
 use Rattle.model.specs.Counts.{is_value}
 use Rattle.model.specs.Masks.{has}
 use Rattle.scheme.specs.declared.step.Step.{Step}
 use Rattle.scheme.specs.declared.step.Step.TheVariants.{Enter, Delete, Set, Create, Destroy}
-use Rattle.scheme.specs.declared.step.Touch.{Touch}
-use Rattle.scheme.specs.declared.step.Touch.TheVariants.{Names, Creates, Destroys}
 use Rattle.scheme.specs.declared.test.Test.{Test}
-use Rattle.scheme.specs.Lists.{any}
 use Rattle.scheme.specs.Tests.{names_in_test}
 
 -- parameter n is one of those that the step names
@@ -35,12 +33,6 @@ destroys_in_step n (Set i k v) = false
 destroys_in_step n (Create i) = false
 destroys_in_step n (Destroy i) = n == i
 
--- the step names, creates or destroys parameter n
-abbrev pub touches : Touch → ℕ → Step → Bool
-touches Names = names_in_step
-touches Creates = creates_in_step
-touches Destroys = destroys_in_step
-
 -- in a command of p parameters: parameters, right and attribute are in range
 abbrev pub step_shaped : (p : ℕ) → Step → Bool
 step_shaped p (Enter r i j) = nat_lt r 16 && (nat_lt i p && nat_lt j p)
@@ -65,19 +57,11 @@ step_row_declared cards (Set i k v) = true
 step_row_declared cards (Create i) = true
 step_row_declared cards (Destroy i) = true
 
--- no step of these does it to parameter n
-abbrev pub no_step : Touch → ℕ → List Step → Bool
-no_step how n steps = not (any (touches how n) steps)
-
--- no test of these names parameter n
-abbrev pub no_test : ℕ → List Test → Bool
-no_test n tests = not (any (names_in_test n) tests)
-
 -- The step may follow these tests and the steps before it: what it names is not destroyed before, what it creates is
 -- named by none of them, and what it destroys is created by none of them.
 abbrev pub well_placed : List Test → List Step → Step → Bool
-well_placed tests before (Enter r i j) = no_step Destroys i before && no_step Destroys j before
-well_placed tests before (Delete r i j) = no_step Destroys i before && no_step Destroys j before
-well_placed tests before (Set i k v) = no_step Destroys i before
-well_placed tests before (Create i) = no_test i tests && no_step Names i before
-well_placed tests before (Destroy i) = no_step Creates i before && no_step Destroys i before
+well_placed tests before (Enter r i j) = not (list_any (destroys_in_step i) before) && not (list_any (destroys_in_step j) before)
+well_placed tests before (Delete r i j) = not (list_any (destroys_in_step i) before) && not (list_any (destroys_in_step j) before)
+well_placed tests before (Set i k v) = not (list_any (destroys_in_step i) before)
+well_placed tests before (Create i) = not (list_any (names_in_test i) tests) && not (list_any (names_in_step i) before)
+well_placed tests before (Destroy i) = not (list_any (creates_in_step i) before) && not (list_any (destroys_in_step i) before)

@@ -1,56 +1,70 @@
 // Where a step may stand among the tests and steps of its command.
 ghost use Rattle.std.specs.Prelude.{◌≡◌, ◌&&◌};
-ghost use Rattle.scheme.specs.Steps.{no_step, no_test, step_row_declared, well_placed};
+ghost use Rattle.std.specs.List.{list_any};
+ghost use Rattle.scheme.specs.Steps.{names_in_step, creates_in_step, destroys_in_step, step_row_declared, well_placed};
+ghost use Rattle.scheme.specs.Tests.{names_in_test};
 
-use crate::step::{Step, Touch};
+use crate::step::Step;
 use crate::test::{Parameter, Test};
 
-// Whether no step of these names, creates or destroys the parameter.
-pub(crate) fn no_step(steps: &[Step], how: Touch, i: Parameter) -> bool
-    ensures { result ≡ no_step how i steps.now }
-{
-    for step in steps {
-        if step.touches(how, i) {
-            return false;
-        }
-    }
-    true
+// What stands in a command before a step. Bit i of `cards` declares parameter i a card.
+#[derive(Clone, Copy)]
+pub struct Before<'a> {
+    pub cards: u8,
+    pub tests: &'a [Test],
+    pub steps: &'a [Step],
 }
 
-// Whether no test of these names the parameter.
-fn no_test(tests: &[Test], i: Parameter) -> bool
-    ensures { result ≡ no_test i tests.now }
-{
-    for test in tests {
-        if test.names(i) {
-            return false;
+impl Before<'_> {
+    // Whether one of the tests names the parameter.
+    fn tests_name(&self, i: Parameter) -> bool
+        ensures { result ≡ list_any (names_in_test i) self.now.tests.now }
+    {
+        self.tests.iter().any(|test| test.names(i))
+    }
+
+    // Whether one of the steps names the parameter. These four are a line each; one of them that takes the question as a
+    // closure would say in its contract what each says here by name.
+    pub(crate) fn steps_name(&self, i: Parameter) -> bool
+        ensures { result ≡ list_any (names_in_step i) self.now.steps.now }
+    {
+        self.steps.iter().any(|step| step.names(i))
+    }
+
+    // Whether one of the steps creates the parameter.
+    pub(crate) fn creates(&self, i: Parameter) -> bool
+        ensures { result ≡ list_any (creates_in_step i) self.now.steps.now }
+    {
+        self.steps.iter().any(|step| step.creates(i))
+    }
+
+    // Whether one of the steps destroys the parameter.
+    fn destroys(&self, i: Parameter) -> bool
+        ensures { result ≡ list_any (destroys_in_step i) self.now.steps.now }
+    {
+        self.steps.iter().any(|step| step.destroys(i))
+    }
+
+    // Whether `step` may follow: nothing it names is destroyed before, nothing it creates is named before, and nothing it
+    // destroys is created before.
+    fn places_well(&self, step: Step) -> bool
+        ensures { result ≡ well_placed self.now.tests.now self.now.steps.now step }
+    {
+        match step {
+            Step::Enter { row, column, .. } | Step::Delete { row, column, .. } => {
+                !self.destroys(row) && !self.destroys(column)
+            }
+            Step::Set { parameter, .. } => !self.destroys(parameter),
+            Step::Create { parameter } => !self.tests_name(parameter)
+                && !self.steps_name(parameter),
+            Step::Destroy { parameter } => !self.creates(parameter) && !self.destroys(parameter),
         }
     }
-    true
-}
 
-// Whether `step` may follow: nothing it names is destroyed before, nothing it creates is named before, and nothing it
-// destroys is created before.
-fn is_well_placed(tests: &[Test], before: &[Step], step: Step) -> bool
-    ensures { result ≡ well_placed tests.now before.now step }
-{
-    match step {
-        Step::Enter { row, column, .. } | Step::Delete { row, column, .. } => {
-            no_step(before, Touch::Destroys, row) && no_step(before, Touch::Destroys, column)
-        }
-        Step::Set { parameter, .. } => no_step(before, Touch::Destroys, parameter),
-        Step::Create { parameter } => no_test(tests, parameter)
-            && no_step(before, Touch::Names, parameter),
-        Step::Destroy { parameter } => {
-            no_step(before, Touch::Creates, parameter)
-                && no_step(before, Touch::Destroys, parameter)
-        }
+    // Whether `step` keeps the rules on rows and on created and destroyed parameters.
+    pub fn keeps_parameter_rules(&self, step: Step) -> bool
+        ensures { result ≡ (step_row_declared self.now.cards step && well_placed self.now.tests.now self.now.steps.now step) }
+    {
+        step.is_row_declared(self.cards) && self.places_well(step)
     }
-}
-
-// Whether `step` keeps the rules on rows and on created and destroyed parameters.
-pub fn keeps_parameter_rules(cards: u8, tests: &[Test], before: &[Step], step: Step) -> bool
-    ensures { result ≡ (step_row_declared cards step && well_placed tests.now before.now step) }
-{
-    step.is_row_declared(cards) && is_well_placed(tests, before, step)
 }

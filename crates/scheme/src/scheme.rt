@@ -1,9 +1,11 @@
 // A scheme: the commands that a register keeps for good.
-ghost use Rattle.std.specs.Prelude.{◌≡◌, [], ◌∷◌, ◌++◌, map, length, if◌then◌else◌, nat_lt};
+ghost use Rattle.std.specs.Prelude.{◌≡◌, [], ◌∷◌, ◌++◌, map, length, nat_le};
+ghost use Rattle.model.specs.Answers.{refused_by, lowest, unless};
 ghost use Rattle.scheme.specs.Views.{view, commands_of};
 
 use crate::command::Command;
 use model::bounded::Bounded;
+use model::fault::Reason;
 
 // How many commands a scheme has at most.
 pub const COMMANDS: usize = 16;
@@ -23,12 +25,12 @@ impl Scheme {
         }
     }
 
-    // One command more, at the end, or `false` and no change where there are sixteen.
-    pub fn add(&mut self, command: Command) -> bool
-        ensures room { result ≡ nat_lt (length (commands_of self.old)) 16 }
-        ensures after { commands_of self.new ≡ (if result then commands_of self.old ++ view command ∷ [] else commands_of self.old) }
+    // One command more, at the end, or a refusal and no change where there are sixteen.
+    pub fn add(&mut self, command: Command) -> Result<(), Reason>
+        ensures answer { refused_by result ≡ lowest ((4, nat_le 16 (length (commands_of self.old))) ∷ []) }
+        ensures after { commands_of self.new ≡ unless (refused_by result) (commands_of self.old) (commands_of self.old ++ view command ∷ []) }
     {
-        self.commands.push(command)
+        self.commands.push(command).map_err(|_| Reason::TooMany)
     }
 
     pub fn len(&self) -> usize

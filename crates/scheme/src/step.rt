@@ -1,13 +1,14 @@
 // A step changes the state; the steps of a command run in order.
 ghost use Rattle.std.specs.Prelude.{◌≡◌, Bool, ◌&&◌};
-ghost use Rattle.scheme.specs.Steps.{names_in_step, touches, step_shaped, step_valued, step_row_declared};
+ghost use Rattle.scheme.specs.Steps.{names_in_step, creates_in_step, destroys_in_step, step_shaped, step_valued, step_row_declared};
 
 use crate::test::Parameter;
 use model::counts::Counts;
 use model::mask::{RIGHTS, Right, holds};
 use model::stamp::{ATTRIBUTES, Attribute, Value};
 
-#[derive(Clone, Copy)]
+// As in a test, the fields are named in each variant, which reads plainer than a struct of them.
+#[derive(Clone, Copy, Debug, PartialEq, Eq)]
 pub enum Step {
     // Put the right into the cell [row, column].
     Enter {
@@ -37,41 +38,31 @@ pub enum Step {
     },
 }
 
-// How a step has to do with a parameter.
-#[derive(Clone, Copy)]
-pub enum Touch {
-    Names,
-    Creates,
-    Destroys,
-}
-
 impl Step {
     pub fn names(self, i: Parameter) -> bool
         ensures { result ≡ names_in_step i self }
     {
         match self {
-            Step::Enter { row, column, .. } => i == row || i == column,
-            Step::Delete { row, column, .. } => i == row || i == column,
-            Step::Set { parameter, .. } => i == parameter,
-            Step::Create { parameter } => i == parameter,
-            Step::Destroy { parameter } => i == parameter,
+            Step::Enter { row, column, .. } | Step::Delete { row, column, .. } => {
+                i == row || i == column
+            }
+            Step::Set { parameter, .. }
+            | Step::Create { parameter }
+            | Step::Destroy { parameter } => i == parameter,
         }
     }
 
-    pub fn touches(self, how: Touch, i: Parameter) -> bool
-        ensures { result ≡ touches how i self }
+    // It differs from `destroys` in a variant, and a variant can't be a parameter.
+    pub fn creates(self, i: Parameter) -> bool
+        ensures { result ≡ creates_in_step i self }
     {
-        match how {
-            Touch::Names => self.names(i),
-            Touch::Creates => match self {
-                Step::Create { parameter } => i == parameter,
-                _ => false,
-            },
-            Touch::Destroys => match self {
-                Step::Destroy { parameter } => i == parameter,
-                _ => false,
-            },
-        }
+        matches!(self, Step::Create { parameter } if i == parameter)
+    }
+
+    pub fn destroys(self, i: Parameter) -> bool
+        ensures { result ≡ destroys_in_step i self }
+    {
+        matches!(self, Step::Destroy { parameter } if i == parameter)
     }
 
     // Whether parameters, right and attribute are in range; a value is `is_valued`'s matter.
@@ -79,17 +70,15 @@ impl Step {
         ensures { result ≡ step_shaped params self }
     {
         match self {
-            Step::Enter { right, row, column } => right < RIGHTS && row < params && column < params,
-            Step::Delete { right, row, column } => right < RIGHTS
-                && row < params
-                && column < params,
+            Step::Enter { right, row, column } | Step::Delete { right, row, column } => {
+                right < RIGHTS && row < params && column < params
+            }
             Step::Set {
                 parameter,
                 attribute,
                 ..
             } => parameter < params && attribute < ATTRIBUTES,
-            Step::Create { parameter } => parameter < params,
-            Step::Destroy { parameter } => parameter < params,
+            Step::Create { parameter } | Step::Destroy { parameter } => parameter < params,
         }
     }
 
@@ -107,6 +96,7 @@ impl Step {
         }
     }
 
+    // `Test` has the same line: a trait of both would need two methods and two ghost members, and be longer than the twins.
     pub fn is_in_range(self, params: u8, counts: &Counts) -> bool
         ensures { result ≡ (step_shaped params self && step_valued counts.now self) }
     {
@@ -118,8 +108,7 @@ impl Step {
         ensures { result ≡ step_row_declared cards self }
     {
         match self {
-            Step::Enter { row, .. } => holds(u16::from(cards), row),
-            Step::Delete { row, .. } => holds(u16::from(cards), row),
+            Step::Enter { row, .. } | Step::Delete { row, .. } => holds(u16::from(cards), row),
             _ => true,
         }
     }

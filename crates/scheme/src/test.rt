@@ -9,7 +9,7 @@ use model::stamp::{ATTRIBUTES, Attribute, Value};
 // A command's parameters are numbered from 0.
 pub type Parameter = u8;
 
-#[derive(Clone, Copy)]
+#[derive(Clone, Copy, Debug, PartialEq, Eq)]
 pub enum Test {
     // The right is in the cell [row, column].
     Holds {
@@ -21,13 +21,13 @@ pub enum Test {
     Is {
         parameter: Parameter,
         attribute: Attribute,
-        value: Value,
+        value: Option<Value>,
     },
     // The parameter's attribute is not the value, which may be null.
     IsNot {
         parameter: Parameter,
         attribute: Attribute,
-        value: Value,
+        value: Option<Value>,
     },
     // The attribute of `upper` covers that of `lower`, and neither is null.
     Covers {
@@ -43,8 +43,7 @@ impl Test {
     {
         match self {
             Test::Holds { row, column, .. } => i == row || i == column,
-            Test::Is { parameter, .. } => i == parameter,
-            Test::IsNot { parameter, .. } => i == parameter,
+            Test::Is { parameter, .. } | Test::IsNot { parameter, .. } => i == parameter,
             Test::Covers { upper, lower, .. } => i == upper || i == lower,
         }
     }
@@ -59,8 +58,8 @@ impl Test {
                 parameter,
                 attribute,
                 ..
-            } => parameter < params && attribute < ATTRIBUTES,
-            Test::IsNot {
+            }
+            | Test::IsNot {
                 parameter,
                 attribute,
                 ..
@@ -82,8 +81,8 @@ impl Test {
                 attribute,
                 value,
                 ..
-            } => counts.is_null_or_value(attribute, value),
-            Test::IsNot {
+            }
+            | Test::IsNot {
                 attribute,
                 value,
                 ..
@@ -92,6 +91,7 @@ impl Test {
         }
     }
 
+    // `Step` has the same line, and says why.
     pub fn is_in_range(self, params: u8, counts: &Counts) -> bool
         ensures { result ≡ (test_shaped params self && test_valued counts.now self) }
     {

@@ -2,14 +2,13 @@
 use Rattle.std.proofs.Common.{◌≡◌, ℕ, ◌*◌, ◌≤◌, true, List, [], ◌∷◌, ◌++◌, length, ap, mul-suc, arith}
 use Rattle.std.proofs.lemmas.List.{length-append}
 use Rattle.std.proofs.lemmas.Bool.{and_parts, leb-true}
-use Rattle.std.specs.List.{flat_map}
+use Rattle.std.specs.List.{flat_map, list_all}
 use Rattle.model.specs.declared.counts.Counts.{Counts}
 use Rattle.scheme.specs.declared.step.Step.{Step}
 use Rattle.scheme.specs.declared.step.Step.TheVariants.{Enter, Delete, Set, Create, Destroy}
 use Rattle.scheme.specs.declared.test.Test.{Test}
 use Rattle.scheme.specs.declared.test.Test.TheVariants.{Holds, Is, IsNot, Covers}
 use Rattle.scheme.specs.Commands.{Command}
-use Rattle.scheme.specs.Lists.{all}
 use Rattle.scheme.specs.Schemes.{well_formed_command, well_formed}
 use Rattle.scheme_tape.specs.Encoding.{encode_command, encode}
 use Rattle.scheme_tape.specs.Instructions.{begins, tests, steps, ends, code}
@@ -41,7 +40,7 @@ command_short c m good =
     let b = joined_short (λ s. code (steps s)) 4 step_short m.steps in
     omega (arith, length-append (code (begins m.params m.cards)) (ts ++ (ss ++ code ends)), length-append ts (ss ++ code ends), length-append ss (code ends), a, b, good.few_tests, good.few_steps)
 
-commands_short : (c : Counts) (commands : List Command) → all (well_formed_command c) commands ≡ true → length (encode commands) ≤ 132 * length commands
+commands_short : (c : Counts) (commands : List Command) → list_all (well_formed_command c) commands ≡ true → length (encode commands) ≤ 132 * length commands
 commands_short c [] formed = omega arith
 commands_short c (m ∷ commands) formed =
     let parts = and_parts _ _ formed in

@@ -2,12 +2,14 @@
 use Rattle.std.proofs.Common.{◌≡◌, ℕ, ◌+◌, ◌<◌, ◌≤◌, true, leb, List, [], ◌∷◌, ◌++◌, map, length, Some, None, sym, refl, ap, ◌∙◌, subst, append_assoc, append-nil, arith}
 use Rattle.std.proofs.lemmas.List.{length_push}
 use Rattle.std.proofs.lemmas.Bool.{and_parts, and_from, leb-true, lt-leb, not_from_true}
-use Rattle.std.specs.List.{flat_map}
+use Rattle.std.proofs.lemmas.Grind.{flat_map-append}
+use Rattle.std.proofs.lemmas.List.Folds.{flat_map-map}
+use Rattle.std.specs.List.{flat_map, list_all}
 use Rattle.model.specs.declared.counts.Counts.{Counts}
 use Rattle.scheme.specs.declared.step.Step.{Step}
 use Rattle.scheme.specs.declared.test.Test.{Test}
 use Rattle.scheme.specs.Commands.{Command, test_fits, step_fits, begin_rules, test_rules, step_rules}
-use Rattle.scheme.specs.Lists.{all, each_after}
+use Rattle.scheme.specs.Lists.{each_after}
 use Rattle.scheme.specs.Schemes.{well_formed_command, well_formed}
 use Rattle.scheme.specs.Steps.{step_valued}
 use Rattle.scheme.specs.Tests.{test_valued}
@@ -15,15 +17,15 @@ use Rattle.tapes.specs.Grammars.{Runs, done, then, codes, Whole}
 use Rattle.tapes.proofs.Reading.{runs_join, codes_join}
 use Rattle.scheme_tape.specs.Drafts.{Draft, scheme_grammar}
 use Rattle.scheme_tape.specs.Encoding.{encode_command, encode}
-use Rattle.scheme_tape.specs.Instructions.{Instruction, begins, tests, steps, ends, code}
+use Rattle.scheme_tape.specs.Instructions.{Instruction, begins, tests, steps, ends}
 use Rattle.scheme_tape.proofs.Shaping.{Good, to_good, from_unbroken}
 
 module _ (c : Counts) (finished : List Command) (params cards : ℕ) where
   abbrev during : List Test → List Step → Draft
   during ts ss = record { finished = finished; current = Some (record { params = params; cards = cards; tests = ts; steps = ss }) }
 
-  tests_run : (before ts : List Test) → length before + length ts ≤ 16 → all (test_fits params cards) ts ≡ true → all (test_valued c) ts ≡ true → Runs (scheme_grammar c) (during before []) (map tests ts) (during (before ++ ts) [])
-  tests_run before [] few fit valued = subst (λ l. Runs (scheme_grammar c) (during before []) [] (during l [])) (sym (append-nil before)) done
+  tests_run : (before ts : List Test) → length before + length ts ≤ 16 → list_all (test_fits params cards) ts ≡ true → list_all (test_valued c) ts ≡ true → Runs (scheme_grammar c) (during before []) (map tests ts) (during (before ++ ts) [])
+  tests_run before [] few fit valued = rw append-nil done
   tests_run before (t ∷ ts) few fit valued =
       let fits = and_parts _ _ fit in
       let shaped = and_parts _ _ fits.0 in
@@ -35,8 +37,8 @@ module _ (c : Counts) (finished : List Command) (params cards : ℕ) where
       (subst (λ l. Runs (scheme_grammar c) (during (before ++ t ∷ []) []) (map tests ts) (during l [])) (append_assoc before (t ∷ []) ts)
       (tests_run (before ++ t ∷ []) ts (omega (arith, length_push before t)) fits.1 values.1))
 
-  steps_run : (ts : List Test) (before ss : List Step) → length before + length ss ≤ 16 → each_after (step_fits params cards ts) before ss ≡ true → all (step_valued c) ss ≡ true → Runs (scheme_grammar c) (during ts before) (map steps ss) (during ts (before ++ ss))
-  steps_run ts before [] few fit valued = subst (λ l. Runs (scheme_grammar c) (during ts before) [] (during ts l)) (sym (append-nil before)) done
+  steps_run : (ts : List Test) (before ss : List Step) → length before + length ss ≤ 16 → each_after (step_fits params cards ts) before ss ≡ true → list_all (step_valued c) ss ≡ true → Runs (scheme_grammar c) (during ts before) (map steps ss) (during ts (before ++ ss))
+  steps_run ts before [] few fit valued = rw append-nil done
   steps_run ts before (s ∷ ss) few fit valued =
       let fits = and_parts _ _ fit in
       let shaped = and_parts _ _ fits.0 in
@@ -64,8 +66,8 @@ command_run c finished m room good =
     (runs_join g (steps_run c finished m.params m.cards m.tests [] m.steps (omega (arith, good.few_steps)) good.fit_steps good.valued_steps)
     (then refl done)))
 
-scheme_run : (c : Counts) (finished commands : List Command) → length finished + length commands ≤ 16 → all (well_formed_command c) commands ≡ true → Runs (scheme_grammar c) (between finished) (flat_map orders_of commands) (between (finished ++ commands))
-scheme_run c finished [] few formed = subst (λ l. Runs (scheme_grammar c) (between finished) [] (between l)) (sym (append-nil finished)) done
+scheme_run : (c : Counts) (finished commands : List Command) → length finished + length commands ≤ 16 → list_all (well_formed_command c) commands ≡ true → Runs (scheme_grammar c) (between finished) (flat_map orders_of commands) (between (finished ++ commands))
+scheme_run c finished [] few formed = rw append-nil done
 scheme_run c finished (m ∷ commands) few formed =
     let parts = and_parts _ _ formed in
     let room : length finished < 16 = omega arith in
@@ -74,18 +76,8 @@ scheme_run c finished (m ∷ commands) few formed =
     (scheme_run c (finished ++ m ∷ []) commands (omega (arith, length_push finished m)) parts.1))
 
 -- their bytes are the encoding
-joined_map : {X Y : Type 0} (f : Y → List ℕ) (h : X → Y) (xs : List X) → flat_map f (map h xs) ≡ flat_map (λ x. f (h x)) xs
-joined_map f h [] = refl
-joined_map f h (x ∷ xs) = ap (λ l. f (h x) ++ l) (joined_map f h xs)
-
 command_codes : (c : Counts) (m : Command) → codes (scheme_grammar c) (orders_of m) ≡ encode_command m
-command_codes c m =
-    let g = scheme_grammar c in
-    let start = code (begins m.params m.cards) in
-    ap (λ l. start ++ l) (codes_join g (map tests m.tests) (map steps m.steps ++ ends ∷ []))
-    ∙ ap (λ l. start ++ (l ++ codes g (map steps m.steps ++ ends ∷ []))) (joined_map code tests m.tests)
-    ∙ ap (λ l. start ++ (flat_map (λ t. code (tests t)) m.tests ++ l)) (codes_join g (map steps m.steps) (ends ∷ []))
-    ∙ ap (λ l. start ++ (flat_map (λ t. code (tests t)) m.tests ++ (l ++ code ends))) (joined_map code steps m.steps)
+command_codes c m = simp (flat_map-append, flat_map-map, append-nil)
 
 scheme_codes : (c : Counts) (commands : List Command) → codes (scheme_grammar c) (flat_map orders_of commands) ≡ encode commands
 scheme_codes c [] = refl

@@ -1,22 +1,22 @@
 -- Orders that break no rule write a well-formed scheme, and their bytes are its encoding.
-use Rattle.std.proofs.Common.{◌≡◌, ℕ, ◌<◌, ◌≤◌, Bool, true, false, cond, leb, List, [], ◌∷◌, ◌++◌, length, Some, None, Option, sym, refl, ap, ◌∙◌, append_assoc, append-nil, arith}
+use Rattle.std.proofs.Common.{◌≡◌, ℕ, ◌<◌, ◌≤◌, Bool, true, false, cond, leb, List, [], ◌∷◌, ◌++◌, length, Some, None, Option, sym, refl, ap, ◌∙◌, append_assoc, append-nil, arith, lit≤}
 use Rattle.std.proofs.lemmas.List.{length_push, nil_from_length}
 use Rattle.std.proofs.lemmas.Bool.{and_parts, and_from, le-leb, leb-true, leb-false, ltb-false, not-false}
-use Rattle.std.specs.List.{flat_map}
+use Rattle.std.proofs.lemmas.Grind.{flat_map-append}
+use Rattle.std.specs.List.{flat_map, list_all}
 use Rattle.model.specs.declared.counts.Counts.{Counts}
 use Rattle.model.specs.Answers.{lowest}
-use Rattle.model.proofs.Cases.{none_some}
 use Rattle.scheme.specs.declared.step.Step.{Step}
 use Rattle.scheme.specs.declared.test.Test.{Test}
 use Rattle.scheme.specs.Commands.{Command, test_fits, step_fits, begin_in_range, begin_rules, test_rules, step_rules}
-use Rattle.scheme.specs.Lists.{all, each_after}
+use Rattle.scheme.specs.Lists.{each_after}
 use Rattle.scheme.specs.Schemes.{well_formed_command, well_formed}
 use Rattle.scheme.specs.Steps.{step_shaped, step_valued}
 use Rattle.scheme.specs.Tests.{test_shaped, test_valued}
 use Rattle.scheme.proofs.Growing.{all_push, each_push}
 use Rattle.tapes.specs.Grammars.{Runs, done, then, codes, Whole}
 use Rattle.scheme_tape.specs.Drafts.{Draft, empty_draft, broken, extended, scheme_grammar}
-use Rattle.scheme_tape.specs.Encoding.{encode_command, encode}
+use Rattle.scheme_tape.specs.Encoding.{encode}
 use Rattle.scheme_tape.specs.Instructions.{Instruction, begins, tests, steps, ends, code}
 
 -- none of these rules is broken
@@ -29,7 +29,7 @@ to_unbroken [] h = tt
 to_unbroken (rule ∷ rules) h = by rule.1 refl h (to_unbroken rules)
   where
     by : (b : Bool) → rule.1 ≡ b → cond b (Some rule.0) (lowest rules) ≡ None → (lowest rules ≡ None → Unbroken rules) → Unbroken (rule ∷ rules)
-    by true is bad on = absurd (none_some rule.0 (sym bad))
+    by true is bad on = cc
     by false is rest on = (is, on rest)
 
 pub from_unbroken : (rules : List (ℕ × Bool)) → Unbroken rules → lowest rules ≡ None
@@ -41,10 +41,10 @@ pub record Good (c : Counts) (m : Command) : Type 0 where
   pub ranged : begin_in_range m.params m.cards ≡ true
   pub few_tests : length m.tests ≤ 16
   pub few_steps : length m.steps ≤ 16
-  pub fit_tests : all (test_fits m.params m.cards) m.tests ≡ true
-  pub valued_tests : all (test_valued c) m.tests ≡ true
+  pub fit_tests : list_all (test_fits m.params m.cards) m.tests ≡ true
+  pub valued_tests : list_all (test_valued c) m.tests ≡ true
   pub fit_steps : each_after (step_fits m.params m.cards m.tests) [] m.steps ≡ true
-  pub valued_steps : all (step_valued c) m.steps ≡ true
+  pub valued_steps : list_all (step_valued c) m.steps ≡ true
 
 pub from_good : (c : Counts) (m : Command) → Good c m → well_formed_command c m ≡ true
 from_good c m g =
@@ -93,12 +93,8 @@ Current c finished (Some m) = (length finished < 16) × Good c m
 
 pub record Sound (c : Counts) (d : Draft) : Type 0 where
   pub few : length d.finished ≤ 16
-  pub formed : all (well_formed_command c) d.finished ≡ true
+  pub formed : list_all (well_formed_command c) d.finished ≡ true
   pub current : Current c d.finished d.current
-
-joined_push : {X : Type 0} (f : X → List ℕ) (xs : List X) (x : X) → flat_map f (xs ++ x ∷ []) ≡ flat_map f xs ++ f x
-joined_push f [] x = append-nil (f x)
-joined_push f (y ∷ ys) x = ap (λ l. f y ++ l) (joined_push f ys x) ∙ sym (append_assoc (f y) (flat_map f ys) (f x))
 
 -- one order more: the draft stays sound, and its bytes are followed by the order's
 abbrev Grows : Counts → Draft → Instruction → Type 0
@@ -122,8 +118,8 @@ module _ (c : Counts) (finished : List Command) where
             room,
             record {
               ranged = not-false _ kept.1.0;
-              few_tests = le_from 0;
-              few_steps = le_from 0;
+              few_tests = lit≤ tt;
+              few_steps = lit≤ tt;
               fit_tests = refl;
               valued_tests = refl;
               fit_steps = refl;
@@ -131,11 +127,8 @@ module _ (c : Counts) (finished : List Command) where
             },
           );
         },
-        ap (λ l. l ++ code (begins p q)) (sym (append-nil (encode finished))),
+        simp append-nil,
       )
-    where
-      le_from : (n : ℕ) → 0 ≤ 16
-      le_from n = omega arith
 
   grows_test : (m : Command) (t : Test) → Sound c (inside m) → broken c (inside m) (tests t) ≡ None → Grows c (inside m) (tests t)
   grows_test m t sound ok =
@@ -144,9 +137,7 @@ module _ (c : Counts) (finished : List Command) where
       let no_steps : m.steps ≡ [] = nil_from_length m.steps (let low = ltb-false 0 (length m.steps) kept.0 in omega arith) in
       let few : length m.tests < 16 = leb-false _ _ kept.1.0 in
       let ranged = and_parts (test_shaped m.params t) (test_valued c t) (not-false _ kept.1.1.0) in
-      let row = not-false _ kept.1.1.1.0 in
-      let start = code (begins m.params m.cards) in
-      let old = flat_map (λ x. code (tests x)) m.tests in (
+      let row = not-false _ kept.1.1.1.0 in (
         record {
           few = sound.few;
           formed = sound.formed;
@@ -163,13 +154,7 @@ module _ (c : Counts) (finished : List Command) where
             },
           );
         },
-        ap (λ l. encode finished ++ (start ++ (l ++ flat_map (λ s. code (steps s)) m.steps))) (joined_push (λ x. code (tests x)) m.tests t)
-            ∙ ap (λ l. encode finished ++ (start ++ ((old ++ code (tests t)) ++ flat_map (λ s. code (steps s)) l))) no_steps
-            ∙ ap (λ l. encode finished ++ (start ++ l)) (append-nil (old ++ code (tests t)))
-            ∙ ap (λ l. encode finished ++ l) (sym (append_assoc start old (code (tests t))))
-            ∙ sym (append_assoc (encode finished) (start ++ old) (code (tests t)))
-            ∙ ap (λ l. (encode finished ++ (start ++ l)) ++ code (tests t)) (sym (append-nil old))
-            ∙ ap (λ l. (encode finished ++ (start ++ (old ++ flat_map (λ s. code (steps s)) l))) ++ code (tests t)) (sym no_steps),
+        rw no_steps (simp (flat_map-append, append-nil, append_assoc)),
       )
 
   grows_step : (m : Command) (s : Step) → Sound c (inside m) → broken c (inside m) (steps s) ≡ None → Grows c (inside m) (steps s)
@@ -178,10 +163,7 @@ module _ (c : Counts) (finished : List Command) where
       let good = sound.current.1 in
       let few : length m.steps < 16 = leb-false _ _ kept.0 in
       let ranged = and_parts (step_shaped m.params s) (step_valued c s) (not-false _ kept.1.0) in
-      let rules = not-false _ kept.1.1.0 in
-      let start = code (begins m.params m.cards) in
-      let old = flat_map (λ x. code (tests x)) m.tests in
-      let done-steps = flat_map (λ x. code (steps x)) m.steps in (
+      let rules = not-false _ kept.1.1.0 in (
         record {
           few = sound.few;
           formed = sound.formed;
@@ -198,35 +180,25 @@ module _ (c : Counts) (finished : List Command) where
             },
           );
         },
-        ap (λ l. encode finished ++ (start ++ (old ++ l))) (joined_push (λ x. code (steps x)) m.steps s)
-            ∙ ap (λ l. encode finished ++ (start ++ l)) (sym (append_assoc old done-steps (code (steps s))))
-            ∙ ap (λ l. encode finished ++ l) (sym (append_assoc start (old ++ done-steps) (code (steps s))))
-            ∙ sym (append_assoc (encode finished) (start ++ (old ++ done-steps)) (code (steps s))),
+        simp (flat_map-append, append-nil, append_assoc),
       )
 
   grows_end : (m : Command) → Sound c (inside m) → Grows c (inside m) ends
-  grows_end m sound =
-      let start = code (begins m.params m.cards) in
-      let old = flat_map (λ x. code (tests x)) m.tests in
-      let done-steps = flat_map (λ x. code (steps x)) m.steps in (
-        record {
-          few = omega (arith, length_push finished m, sound.current.0);
-          formed = all_push _ finished m ∙ and_from _ _ sound.formed (from_good c m sound.current.1);
-          current = tt;
-        },
-        append-nil (encode (finished ++ m ∷ []))
-            ∙ joined_push encode_command finished m
-            ∙ ap (λ l. encode finished ++ (start ++ l)) (sym (append_assoc old done-steps (code ends)))
-            ∙ ap (λ l. encode finished ++ l) (sym (append_assoc start (old ++ done-steps) (code ends)))
-            ∙ sym (append_assoc (encode finished) (start ++ (old ++ done-steps)) (code ends)),
-      )
+  grows_end m sound = (
+    record {
+      few = omega (arith, length_push finished m, sound.current.0);
+      formed = all_push _ finished m ∙ and_from _ _ sound.formed (from_good c m sound.current.1);
+      current = tt;
+    },
+    simp (flat_map-append, append-nil, append_assoc),
+  )
 
 grows : (c : Counts) (finished : List Command) (current : Option Command) (i : Instruction) → Sound c (record { finished = finished; current = current }) → broken c (record { finished = finished; current = current }) i ≡ None → Grows c (record { finished = finished; current = current }) i
 grows c finished None (begins p q) sound ok = grows_begin c finished p q sound ok
-grows c finished None (tests t) sound ok = absurd (none_some 3 (sym ok))
-grows c finished None (steps s) sound ok = absurd (none_some 3 (sym ok))
-grows c finished None ends sound ok = absurd (none_some 3 (sym ok))
-grows c finished (Some m) (begins p q) sound ok = absurd (none_some 3 (sym ok))
+grows c finished None (tests t) sound ok = cc
+grows c finished None (steps s) sound ok = cc
+grows c finished None ends sound ok = cc
+grows c finished (Some m) (begins p q) sound ok = cc
 grows c finished (Some m) (tests t) sound ok = grows_test c finished m t sound ok
 grows c finished (Some m) (steps s) sound ok = grows_step c finished m s sound ok
 grows c finished (Some m) ends sound ok = grows_end c finished m sound

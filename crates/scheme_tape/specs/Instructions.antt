@@ -1,6 +1,6 @@
 -- What one order of the scheme tape says, and its bytes. A test's or a step's case has the order byte as its number and
 -- the operands as its values.
-use Rattle.std.specs.Prelude.{ℕ, List, [], ◌∷◌}
+use Rattle.std.specs.Prelude.{ℕ, ◌+◌, ◌-◌, cond, List, [], ◌∷◌, Some, None, Option, ◌==◌, nat_lt}
 use Rattle.scheme.specs.declared.step.Step.{Step}
 use Rattle.scheme.specs.declared.step.Step.TheVariants.{Enter, Delete, Set, Create, Destroy}
 use Rattle.scheme.specs.declared.test.Test.{Test}
@@ -14,10 +14,20 @@ pub data Instruction : Type 0 where
   steps : Step → Instruction
   ends : Instruction
 
+-- A value where null may stand, as a byte: null is 255. A number from there on, which is a value of no scale, moves up by
+-- one, so that each has a number of its own.
+abbrev pub value_on_tape : Option ℕ → ℕ
+value_on_tape None = 255
+value_on_tape (Some v) = cond (nat_lt v 255) v (v + 1)
+
+-- what such a byte stands for
+abbrev pub value_read : ℕ → Option ℕ
+value_read n = cond (nat_lt n 255) (Some n) (cond (n == 255) None (Some (n - 1)))
+
 abbrev pub test_case : Test → Case
 test_case (Holds r i j) = record { number = 0x20; values = r ∷ i ∷ j ∷ [] }
-test_case (Is i k v) = record { number = 0x21; values = i ∷ k ∷ v ∷ [] }
-test_case (IsNot i k v) = record { number = 0x22; values = i ∷ k ∷ v ∷ [] }
+test_case (Is i k v) = record { number = 0x21; values = i ∷ k ∷ value_on_tape v ∷ [] }
+test_case (IsNot i k v) = record { number = 0x22; values = i ∷ k ∷ value_on_tape v ∷ [] }
 test_case (Covers i k j) = record { number = 0x23; values = i ∷ k ∷ j ∷ [] }
 
 abbrev pub step_case : Step → Case

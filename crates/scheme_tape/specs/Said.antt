@@ -7,7 +7,7 @@ use Rattle.scheme.specs.declared.test.Test.TheVariants.{Holds as HoldsTest, Is a
 use Rattle.tapes.specs.declared.order.Order.{Order}
 use Rattle.tapes.specs.declared.order.Order.TheVariants.{Begin, End, Holds, Is, IsNot, Covers, Enter, Delete, Set, Create, Destroy, Card, Thing, Right, Stamp, Allow, Ban}
 use Rattle.scheme_tape.specs.Drafts.{Draft, broken, extended}
-use Rattle.scheme_tape.specs.Instructions.{Instruction, begins, tests, steps, ends}
+use Rattle.scheme_tape.specs.Instructions.{Instruction, begins, tests, steps, ends, value_read}
 
 -- operand k
 abbrev pub op : List ℕ → ℕ → ℕ
@@ -18,8 +18,8 @@ abbrev pub said : Order → Option Instruction
 said (Begin x) = Some (begins (op x.now 0) (op x.now 1))
 said End = Some ends
 said (Holds x) = Some (tests (HoldsTest (op x.now 0) (op x.now 1) (op x.now 2)))
-said (Is x) = Some (tests (IsTest (op x.now 0) (op x.now 1) (op x.now 2)))
-said (IsNot x) = Some (tests (IsNotTest (op x.now 0) (op x.now 1) (op x.now 2)))
+said (Is x) = Some (tests (IsTest (op x.now 0) (op x.now 1) (value_read (op x.now 2))))
+said (IsNot x) = Some (tests (IsNotTest (op x.now 0) (op x.now 1) (value_read (op x.now 2))))
 said (Covers x) = Some (tests (CoversTest (op x.now 0) (op x.now 1) (op x.now 2)))
 said (Enter x) = Some (steps (EnterStep (op x.now 0) (op x.now 1) (op x.now 2)))
 said (Delete x) = Some (steps (DeleteStep (op x.now 0) (op x.now 1) (op x.now 2)))

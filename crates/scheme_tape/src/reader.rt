@@ -28,9 +28,9 @@ fn read_by(counts: &Counts, tape: &[u8]) -> Result<Scheme, Fault>
 
 // The scheme that the tape stands for under any four scales, or the first rule that it breaks.
 pub fn read_scheme<S0: Scale, S1: Scale, S2: Scale, S3: Scale>(tape: &[u8]) -> Result<Scheme, Fault>
-    ensures reading { SchemeRead (counts_by S0.Scale.count S1.Scale.count S2.Scale.count S3.Scale.count) tape.now (answer commands_of result) }
-    ensures exact { AcceptedExactly (counts_by S0.Scale.count S1.Scale.count S2.Scale.count S3.Scale.count) tape.now (answer commands_of result) }
-    ensures law { OneReading (counts_by S0.Scale.count S1.Scale.count S2.Scale.count S3.Scale.count) }
+    ensures reading { SchemeRead (counts_by S0.Scale.COUNT S1.Scale.COUNT S2.Scale.COUNT S3.Scale.COUNT) tape.now (answer commands_of result) }
+    ensures exact { AcceptedExactly (counts_by S0.Scale.COUNT S1.Scale.COUNT S2.Scale.COUNT S3.Scale.COUNT) tape.now (answer commands_of result) }
+    ensures law { OneReading (counts_by S0.Scale.COUNT S1.Scale.COUNT S2.Scale.COUNT S3.Scale.COUNT) }
 {
     let counts = Counts::of::<S0, S1, S2, S3>();
     read_by(&counts, tape)

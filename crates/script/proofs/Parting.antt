@@ -1,7 +1,9 @@
 -- How a line comes apart into blanks, its first word and the rest, and that it does so in one way.
-use Rattle.std.proofs.Common.{◌≡◌, ℕ, ◌<◌, Bool, not, List, [], ◌∷◌, ◌++◌, length, take, sym, ap, ◌∙◌, subst, append-nil, arith}
+use Rattle.std.proofs.Common.{◌≡◌, ℕ, ◌<◌, Bool, not, List, [], ◌∷◌, ◌++◌, length, take, sym, ap, ◌∙◌, subst, append_assoc, append-nil, arith}
+use Rattle.std.specs.Prelude.{IsTrue}
 use Rattle.std.specs.List.{position_or_len}
 use Rattle.std.proofs.lemmas.Bool.{not-true}
+use Rattle.std.proofs.lemmas.List.Elements.{All-append}
 use Rattle.std.proofs.lemmas.List.{take-append-drop, take_at, drop_at, length-take}
 use Rattle.script.specs.Words.{blank, Blanks, Solid, Word, Over, Begins, Alone, past_blanks, front_word, past_word}
 use Rattle.script.proofs.Scanning.{Stops, before_fails, there_stops, place_is, place_past}
@@ -28,12 +30,19 @@ pub margin_whole : (text : List ℕ) → text ≡ margin text ++ past_blanks tex
 margin_whole text = sym (take-append-drop (position_or_len solid text) text)
 
 -- past blanks stands what does not begin with one
-pub past_margin : (front text : List ℕ) → Blanks front → Fresh text → past_blanks (front ++ text) ≡ text
-past_margin front text bs fresh =
+pub fresh_stays : (front text : List ℕ) → Blanks front → Fresh text → past_blanks (front ++ text) ≡ text
+fresh_stays front text bs fresh =
     drop_at front text _ (sym (place_is solid front text (λ k d l. ap not (bs k d l)) fresh))
 
+-- blanks before a text make no difference to what stands past its own
+pub past_margin : (front text : List ℕ) → Blanks front → past_blanks (front ++ text) ≡ past_blanks text
+past_margin front text bs =
+    ap (λ t. past_blanks (front ++ t)) (margin_whole text)
+    ∙ ap past_blanks (sym (append_assoc front (margin text) (past_blanks text)))
+    ∙ fresh_stays (front ++ margin text) (past_blanks text) (All-append (λ b. IsTrue (blank b)) front (margin text) bs (margin_blanks text)) (past_fresh text)
+
 pub blanks_past : (text : List ℕ) → Blanks text → past_blanks text ≡ []
-blanks_past text bs = subst (λ t. past_blanks t ≡ []) (append-nil text) (past_margin text [] bs tt)
+blanks_past text bs = subst (λ t. past_blanks t ≡ []) (append-nil text) (past_margin text [] bs)
 
 pub past_none : (text : List ℕ) → past_blanks text ≡ [] → Blanks text
 past_none text e = subst Blanks (sym (margin_whole text ∙ ap (λ p. margin text ++ p) e ∙ append-nil _)) (margin_blanks text)
@@ -80,7 +89,7 @@ word_fresh (b ∷ word) rest w = ap not (w.1 0 0 (omega arith))
 -- past the blanks stands the word itself
 pub begun_by : (line word rest : List ℕ) → Begins line word rest → past_blanks line ≡ word ++ rest
 begun_by line word rest h =
-    ap past_blanks h.whole ∙ past_margin h.margin (word ++ rest) h.blanks (word_fresh word rest h.solid)
+    ap past_blanks h.whole ∙ fresh_stays h.margin (word ++ rest) h.blanks (word_fresh word rest h.solid)
 
 pub word_is : (line word rest : List ℕ) → Begins line word rest → front_word (past_blanks line) ≡ word
 word_is line word rest h =

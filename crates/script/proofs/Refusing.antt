@@ -11,7 +11,7 @@ module _ {T X : Type 0} (view : T → X) (P : X → Type 0) (W : Type 0) where
   -- a refusal of another reader, which says as much here
   refusal : {S : Type 0} (look : S → X) {Q : X → Type 0} {V : Type 0} (e : ReadError) → Reads look Q V (Err e) → ((x : X) → P x → Q x) → (V → W) → Reads view P W (Err e)
   refusal look Unreadable none from wants = λ x p. none x (from x p)
-  refusal look OutOfMemory v from wants = wants v
+  refusal look (OutOfMemory cause) v from wants = wants v
 
   -- the exit of a `?` on that reader
   pub refused : {S : Type 0} (look : S → X) {Q : X → Type 0} {V : Type 0} (r : Result T ReadError) (e : ReadError) → IsErrAnd r (λ d. d ≡ e) → Reads look Q V (Err e) → ((x : X) → P x → Q x) → (V → W) → Reads view P W r

@@ -44,7 +44,7 @@ silent_blanks : (line : List ℕ) → Blanks line → silent (past_blanks line) 
 silent_blanks line bs = ap silent (blanks_past line bs)
 
 silent_remark : (front rest : List ℕ) → Blanks front → silent (past_blanks (front ++ (codes "#" ++ rest))) ≡ true
-silent_remark front rest bs = ap silent (past_margin front (codes "#" ++ rest) bs refl)
+silent_remark front rest bs = ap silent (past_margin front (codes "#" ++ rest) bs)
 
 heard : (key : Keyword) (line rest : List ℕ) → Begins line (spelling key) rest → silent (past_blanks line) ≡ false
 heard key line rest b = ap silent (begun_by line (spelling key) rest b) ∙ loud key rest

@@ -1,5 +1,5 @@
 -- What a reader answers that can run out of memory.
-use Rattle.std.specs.Prelude.{Result, Ok, Err}
+use Rattle.std.specs.Prelude.{Result, Ok, Err, ⊤}
 use Rattle.script.specs.declared.error.ReadError.{ReadError}
 use Rattle.script.specs.declared.error.ReadError.TheVariants.{OutOfMemory, Unreadable}
 
@@ -8,4 +8,9 @@ use Rattle.script.specs.declared.error.ReadError.TheVariants.{OutOfMemory, Unrea
 abbrev pub Reads : {T X : Type 0} → (T → X) → (X → Type 0) → Type 0 → Result T ReadError → Type 0
 Reads view P wanted (Ok x) = P (view x)
 Reads {X = X} view P wanted (Err Unreadable) = (x : X) → ¬ P x
-Reads view P wanted (Err OutOfMemory) = wanted
+Reads view P wanted (Err (OutOfMemory cause)) = wanted
+
+-- the error of a text for which memory was wanting
+abbrev pub IsOutOfMemory : ReadError → Type 0
+IsOutOfMemory (OutOfMemory cause) = ⊤
+IsOutOfMemory Unreadable = ⊥

@@ -1,20 +1,19 @@
 // Why a text is not read.
-ghost use Rattle.std.specs.Prelude.{◌≡◌};
-ghost use Rattle.script.specs.declared.error.ReadError.TheVariants.{OutOfMemory};
+ghost use Rattle.script.specs.Reads.{IsOutOfMemory};
 
-use std::alloc::AllocFailed;
+use std::alloc::{AllocError, AllocFailed};
 
 #[derive(Clone, Copy, Debug, PartialEq, Eq)]
 pub enum ReadError {
-    OutOfMemory,
+    OutOfMemory(AllocError),
     // What is written follows none of the rules.
     Unreadable,
 }
 
 impl<T: Drop> From<AllocFailed<T>> for ReadError {
-    ghost from_gives = { λ _ e. e ≡ OutOfMemory };
+    ghost from_gives = { λ _ e. IsOutOfMemory e };
 
-    fn from(_e: AllocFailed<T>) -> ReadError {
-        ReadError::OutOfMemory
+    fn from(cause: AllocFailed<T>) -> ReadError {
+        ReadError::OutOfMemory(AllocError::from(cause))
     }
 }

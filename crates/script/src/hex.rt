@@ -9,6 +9,7 @@ use crate::error::ReadError;
 use crate::words::past_blanks;
 use std::alloc::Global;
 
+// With the radix a parameter, this and `decimal` would be the library's call.
 fn digit(b: u8) -> Option<u8>
     ensures { result ≡ digit_value b }
 {
@@ -40,6 +41,7 @@ pub fn read_hex(heap: Global, text: &[u8]) -> Result<Vec<u8>, ReadError>
 {
     let mut bytes = Vec::new(heap);
     let mut rest = past_blanks(text);
+    // No index is counted: each turn takes a pair and the blanks after it off the front.
     while !rest.is_empty() {
         let (value, after) = first_pair(rest).ok_or(ReadError::Unreadable)?;
         bytes.push(value)?;

@@ -9,6 +9,7 @@ pub(crate) enum Keyword {
     List,
 }
 
+// A word that is none has no error of its own, so this is no `TryFrom`.
 pub(crate) fn find_keyword(word: &[u8]) -> Option<Keyword>
     ensures { Finds (λ k. word.now ≡ spelling k) result }
 {

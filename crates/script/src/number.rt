@@ -25,6 +25,7 @@ pub(crate) fn read_number(word: &[u8], most: u32) -> Option<u32>
     if word.is_empty() {
         return None;
     }
+    // A `try_fold` was tried, and its proof did not close: it leaves a goal over its turns that no lemma fits.
     let mut number = 0;
     for b in word {
         number = with_digit(number, *b, most)?;

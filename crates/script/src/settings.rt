@@ -34,5 +34,6 @@ pub(crate) fn filter_parts(rest: &[u8]) -> Option<(u8, u16)>
     let (digits, more) = first_word(rest)?;
     let attribute = read_number(digits, 255)?;
     let mask = read_mask(lone_word(more)?)?;
+    // It is 255 at most; `try_from` would be a branch that gives up.
     Some((attribute as u8, mask))
 }

@@ -21,7 +21,7 @@ pub(crate) fn past_blanks(text: &[u8]) -> &[u8]
     &text[start..]
 }
 
-// The bytes before the first blank, and the text from there on.
+// The bytes before the first blank, and the text from there on. It differs from the above in the test, and in what it cuts.
 pub(crate) fn split_word(text: &[u8]) -> (&[u8], &[u8])
     ensures word { result.0.now ≡ front_word text.now }
     ensures rest { result.1.now ≡ past_word text.now }

@@ -8,13 +8,14 @@ mod tests {
     use std::process::Abort;
     use std::test::Fail;
 
+    // A word for each case, since a call holds a tape and is not compared.
     fn kind(heap: Global, line: &[u8]) -> &'static str {
         match read_line(heap, line) {
             Ok(None) => "nothing",
             Ok(Some(Call::Scheme(_))) => "scheme",
             Ok(Some(Call::List)) => "list",
             Err(ReadError::Unreadable) => "unreadable",
-            Err(ReadError::OutOfMemory) => "out of memory",
+            Err(ReadError::OutOfMemory(_)) => "out of memory",
         }
     }
 

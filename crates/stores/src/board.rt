@@ -1,9 +1,10 @@
 // A board: one mask for each pair of names, in memory that the caller lends.
 ghost use Rattle.std.specs.Prelude.{◌≡◌, ◌+◌, ◌*◌, ◌&&◌, if◌then◌else◌, Some, None, is_ok, slice_set};
 ghost use Rattle.model.specs.Answers.{accepted, refused, refused_by, lowest, unless};
-ghost use Rattle.stores.specs.Boards.{fits_board, board_cells, board_limit, shown, emptied};
+ghost use Rattle.stores.specs.Boards.{fits_board, board_limit, shown, emptied};
 ghost use Rattle.stores.specs.Matrices.{is_name, blank, written, row_count, takes, write_rules};
 ghost use Rattle.stores.specs.Unfit.{made_answer, handed_back};
+ghost use Rattle.std.proofs.Common.{rules};
 
 use crate::store::CellStore;
 use crate::unfit::Unfit;
@@ -36,7 +37,7 @@ fn place_of(row: Name, column: Name) -> Option<usize>
     ensures { result ≡ (if is_name row && is_name column then Some (64 * row + column) else None) }
 {
     if row < NAMES && column < NAMES {
-        Some(64 * row as usize + column as usize)
+        Some(64 * usize::from(row) + usize::from(column))
     } else {
         None
     }
@@ -79,9 +80,11 @@ impl<'a> Board<'a> {
 }
 
 impl CellStore for Board<'_> {
-    ghost cells = { board_cells };
+    ghost cells = { shown };
 
     ghost most = { λ b. board_limit };
+
+    ghost of_names = { Prim.search rules };
 
     fn read(&self, row: Name, column: Name) -> Mask {
         match place_of(row, column) {

@@ -1,7 +1,7 @@
 // A cell store keeps a mask for each pair of names, and has a limit on how many of them are not empty.
-ghost use Rattle.std.specs.Prelude.{◌≡◌, ℕ, is_ok};
+ghost use Rattle.std.specs.Prelude.{◌≡◌, ℕ, ◌&&◌, false, is_ok};
 ghost use Rattle.model.specs.Answers.{refused_by, lowest, unless};
-ghost use Rattle.stores.specs.Matrices.{Matrix, on_names, blank, written, count, takes, write_rules};
+ghost use Rattle.stores.specs.Matrices.{Matrix, is_name, blank, written, count, takes, write_rules};
 
 use model::fault::Reason;
 use model::mask::Mask;
@@ -9,7 +9,7 @@ use model::name::Name;
 
 // Row and column stay two numbers: `write(63, 63, mask)` reads plainer than a cell made for each call.
 pub trait CellStore {
-    // What the store holds. What it would say of a number that is no name does not count.
+    // What the store holds.
     ghost cells: { Self → Matrix };
 
     // Its limit.
@@ -17,19 +17,19 @@ pub trait CellStore {
 
     // The mask of a cell; a name over 63 has empty cells only.
     fn read(&self, row: Name, column: Name) -> Mask
-        ensures { result ≡ on_names (cells self.now) row column };
+        ensures { result ≡ cells self.now row column };
 
     // Puts a mask into a cell, or refuses to and changes nothing. That the limit stays is of two states, before and
-    // after, so neither an invariant nor a view can say it, and each edit does.
+    // after, which no invariant says; a view of cells and limit would, but clauses name the two apart.
     fn write(&mut self, row: Name, column: Name, mask: Mask) -> Result<(), Reason>
-        ensures answer { refused_by result ≡ lowest (write_rules (most self.old) (on_names (cells self.old)) row column mask) }
-        ensures taken { is_ok result ≡ takes (most self.old) (on_names (cells self.old)) row column mask }
-        ensures after { on_names (cells self.new) ≡ unless (refused_by result) (on_names (cells self.old)) (written (on_names (cells self.old)) row column mask) }
+        ensures answer { refused_by result ≡ lowest (write_rules (most self.old) (cells self.old) row column mask) }
+        ensures taken { is_ok result ≡ takes (most self.old) (cells self.old) row column mask }
+        ensures after { cells self.new ≡ unless (refused_by result) (cells self.old) (written (cells self.old) row column mask) }
         ensures limit { most self.new ≡ most self.old };
 
     // How many cells are not empty.
     fn filled(&self) -> usize
-        ensures { result ≡ count (on_names (cells self.now)) };
+        ensures { result ≡ count (cells self.now) };
 
     // How many cells may be non-empty at a time.
     fn limit(&self) -> usize
@@ -37,6 +37,9 @@ pub trait CellStore {
 
     // Empties every cell.
     fn clear(&mut self)
-        ensures after { on_names (cells self.new) ≡ blank }
+        ensures after { cells self.new ≡ blank }
         ensures limit { most self.new ≡ most self.old };
+
+    // A number that is no name has empty cells only.
+    ghost of_names: { (store : Self) (row column : ℕ) → (is_name row && is_name column) ≡ false → cells store row column ≡ 0 };
 }

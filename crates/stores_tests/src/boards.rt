@@ -10,12 +10,10 @@ fn refused(rt: &impl Abort, memory: &mut [Mask]) -> Result<(), Fail> {
     match Board::new(memory) {
         Ok(_) => Err(Fail::new("only 4096 masks are a board")),
         Err(unfit) => {
-            assert!(rt; unfit.fault.layer.number() == 7);
-            assert!(rt; unfit.fault.reason.number() == 22);
+            assert!(rt; u8::from(unfit.fault.layer) == 7);
+            assert!(rt; u8::from(unfit.fault.reason) == 22);
             assert!(rt; unfit.fault.place == 0);
-            for mask in unfit.memory.iter() {
-                assert!(rt; *mask == 7);
-            }
+            assert!(rt; unfit.memory.iter().all(|mask| *mask == 7));
             Ok(())
         }
     }
@@ -32,15 +30,13 @@ fn other_lengths(rt: HostRuntime) -> Result<(), Fail> {
 #[test]
 fn places(rt: HostRuntime) -> Result<(), Fail> {
     let mut memory = [7; 4096];
-    match Board::new(&mut memory) {
-        Ok(mut board) => {
-            assert!(rt; board.write(1, 2, 5).is_ok() && board.write(63, 63, 6).is_ok());
-            assert!(rt; board.limit() == 4096);
-            let masks = board.into_memory();
-            assert!(rt; masks.len() == 4096);
-            assert!(rt; masks[66] == 5 && masks[4095] == 6 && masks[0] == 0 && masks[129] == 0);
-            Ok(())
-        }
-        Err(_) => Err(Fail::new("4096 masks are a board")),
-    }
+    let mut board = Board::new(&mut memory)
+        .ok()
+        .ok_or("4096 masks are a board")?;
+    assert!(rt; board.write(1, 2, 5).is_ok() && board.write(63, 63, 6).is_ok());
+    assert!(rt; board.limit() == 4096);
+    let masks = board.into_memory();
+    assert!(rt; masks.len() == 4096);
+    assert!(rt; masks[66] == 5 && masks[4095] == 6 && masks[0] == 0 && masks[129] == 0);
+    Ok(())
 }

@@ -8,16 +8,13 @@ use stores::list::RecordList;
 use stores::record::Record;
 use stores::store::CellStore;
 
-// The rule that a write broke, by its number.
-pub(crate) fn rule(answer: Result<(), Reason>) -> Option<u8> {
-    answer.err().map(|reason| reason.number())
-}
-
 fn ends_are_empty<S: CellStore>(rt: &impl Abort, store: &S) {
     let pairs: [(Name, Name); 4] = [(64, 0), (0, 64), (255, 255), (1, 0)];
-    for (row, column) in pairs {
-        assert!(rt; store.read(row, column) == 0);
-    }
+    assert!(rt;
+        pairs
+            .iter()
+            .all(|(row, column)| store.read(*row, *column) == 0)
+    );
 }
 
 // Over an empty store with room for at least two cells.
@@ -35,9 +32,9 @@ fn keeps_cells<S: CellStore>(rt: &impl Abort, store: &mut S) {
     assert!(rt; store.read(0, 63) == 2);
     assert!(rt; store.write(63, 63, 1).is_ok() && store.read(63, 63) == 1);
     // No name, no cell; not even an empty mask is taken.
-    assert!(rt; rule(store.write(64, 0, 1)) == Some(11));
-    assert!(rt; rule(store.write(0, 64, 1)) == Some(11));
-    assert!(rt; rule(store.write(255, 255, 0)) == Some(11));
+    assert!(rt; store.write(64, 0, 1) == Err(Reason::NoSuchName));
+    assert!(rt; store.write(0, 64, 1) == Err(Reason::NoSuchName));
+    assert!(rt; store.write(255, 255, 0) == Err(Reason::NoSuchName));
     assert!(rt; store.filled() == 2);
     store.clear();
     assert!(rt; store.filled() == 0 && store.read(63, 63) == 0 && store.limit() == limit);
@@ -46,10 +43,10 @@ fn keeps_cells<S: CellStore>(rt: &impl Abort, store: &mut S) {
 #[test]
 fn board(rt: HostRuntime) -> Result<(), Fail> {
     let mut memory = [7; 4096];
-    match Board::new(&mut memory) {
-        Ok(mut board) => keeps_cells(&rt, &mut board),
-        Err(_) => return Err(Fail::new("4096 masks are a board")),
-    }
+    let mut board = Board::new(&mut memory)
+        .ok()
+        .ok_or("4096 masks are a board")?;
+    keeps_cells(&rt, &mut board);
     Ok(())
 }
 
@@ -61,9 +58,7 @@ fn list(rt: HostRuntime) -> Result<(), Fail> {
         mask: 7,
     };
     let records = vec![in rt.alloc(); record; 2]?;
-    match RecordList::new(records) {
-        Ok(mut list) => keeps_cells(&rt, &mut list),
-        Err(_) => return Err(Fail::new("two records are a list")),
-    }
+    let mut list = RecordList::new(records).map_err(|_| "two records are a list")?;
+    keeps_cells(&rt, &mut list);
     Ok(())
 }

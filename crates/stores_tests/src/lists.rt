@@ -1,5 +1,5 @@
 // Lists by their memory.
-use crate::either::rule;
+use model::fault::Reason;
 use std::alloc::Global;
 use std::process::Abort;
 use std::test::Fail;
@@ -15,23 +15,20 @@ const USED: Record = Record {
 };
 
 fn list_of(heap: Global, records: usize) -> Result<RecordList, Fail> {
-    match RecordList::new(vec![in heap; USED; records]?) {
-        Ok(list) => Ok(list),
-        Err(_) => Err(Fail::new("1 to 4096 records are a list")),
-    }
+    let list = RecordList::new(vec![in heap; USED; records]?);
+    Ok(list.map_err(|_| "1 to 4096 records are a list")?)
 }
 
+// Boards are refused in a like way, but lend their memory, and look at it mask by mask.
 fn refused(rt: &impl Abort, heap: Global, records: usize) -> Result<(), Fail> {
     match RecordList::new(vec![in heap; USED; records]?) {
         Ok(_) => Err(Fail::new("only 1 to 4096 records are a list")),
         Err(unfit) => {
-            assert!(rt; unfit.fault.layer.number() == 7);
-            assert!(rt; unfit.fault.reason.number() == 23);
+            assert!(rt; u8::from(unfit.fault.layer) == 7);
+            assert!(rt; u8::from(unfit.fault.reason) == 23);
             assert!(rt; unfit.fault.place == 0);
             assert!(rt; unfit.memory.len() == records);
-            for record in unfit.memory.as_slice().iter() {
-                assert!(rt; *record == USED);
-            }
+            assert!(rt; unfit.memory.iter().all(|record| *record == USED));
             Ok(())
         }
     }
@@ -53,7 +50,7 @@ fn lengths(rt: HostRuntime) -> Result<(), Fail> {
 fn one_record(rt: HostRuntime) -> Result<(), Fail> {
     let mut list = list_of(rt.alloc(), 1)?;
     assert!(rt; list.write(5, 6, 1).is_ok() && list.write(5, 6, 2).is_ok());
-    assert!(rt; rule(list.write(6, 5, 1)) == Some(16));
+    assert!(rt; list.write(6, 5, 1) == Err(Reason::StoreTooSmall));
     assert!(rt; list.write(6, 5, 0).is_ok() && list.read(6, 5) == 0);
     assert!(rt; list.read(5, 6) == 2 && list.filled() == 1);
     assert!(rt; list.write(5, 6, 0).is_ok() && list.write(6, 5, 1).is_ok());
@@ -69,12 +66,10 @@ fn records(rt: HostRuntime) -> Result<(), Fail> {
         list.write(1, 1, 1).is_ok() && list.write(2, 2, 2).is_ok() && list.write(3, 3, 3).is_ok()
     );
     assert!(rt; list.write(1, 1, 0).is_ok());
-    let mut masks = 0;
-    for record in list.records().iter() {
-        assert!(rt; record.row == record.column);
-        masks |= record.mask;
-    }
-    assert!(rt; masks == 3 && list.records().len() == 2);
+    let used = list.records();
+    assert!(rt; used.iter().all(|record| record.row == record.column));
+    let masks = used.iter().fold(0, |masks, record| masks | record.mask);
+    assert!(rt; masks == 3 && used.len() == 2);
     assert!(rt; list.read(2, 2) == 2 && list.read(3, 3) == 3);
     assert!(rt; list.into_records().len() == 4);
     Ok(())

@@ -5,7 +5,8 @@ use crate::tape::Tape;
 
 mod steps;
 
-// What has been read of the tape are its first `at` bytes; an offset in it always fits.
+// What has been read of the tape are its first `at` bytes; an offset in it always fits. Faults name the offset, so it is kept
+// beside all bytes, and not the rest of them.
 #[derive(Drop)]
 pub struct Orders<'a> {
     bytes: &'a [u8],

@@ -36,7 +36,8 @@ impl Tape {
         Some((order, 1 + u16::from(row.operands)))
     }
 
-    // The order of this tape that stands at an offset; what is none is refused there.
+    // The order of this tape that stands at an offset; what is none is refused there. Bytes and offset are any, of any length,
+    // which `Orders` would not take.
     pub fn order_at<'a>(self, bytes: &'a [u8], offset: u16) -> Result<Placed<'a>, Fault>
         ensures { answer placed result ≡ handed_on self offset (first_order self (drop offset bytes.now)) }
     {

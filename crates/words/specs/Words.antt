@@ -1,6 +1,5 @@
 -- Kinds, values, tests and steps in words.
-use Rattle.std.specs.Prelude.{ℕ, cond, List, ◌++◌, codes, decimal, ◌==◌}
-use Rattle.model.specs.Stamps.{null}
+use Rattle.std.specs.Prelude.{ℕ, List, ◌++◌, Some, None, Option, codes, decimal}
 use Rattle.model.specs.declared.kind.Kind.{Kind}
 use Rattle.model.specs.declared.kind.Kind.TheVariants.{Subject, Object}
 use Rattle.scheme.specs.declared.step.Step.{Step}
@@ -12,8 +11,9 @@ abbrev pub kind_words : Kind → List ℕ
 kind_words Subject = codes "card"
 kind_words Object = codes "thing"
 
-abbrev pub value_words : ℕ → List ℕ
-value_words v = cond (v == null) (codes "null") (decimal v)
+abbrev pub value_words : Option ℕ → List ℕ
+value_words None = codes "null"
+value_words (Some v) = decimal v
 
 -- the cell [i, j]
 abbrev pub cell_words : (i j : ℕ) → List ℕ
@@ -32,6 +32,6 @@ test_words (Covers i k j) = codes "attribute " ++ of_then k i (codes " covers at
 abbrev pub step_words : Step → List ℕ
 step_words (Enter r i j) = codes "enter right " ++ (decimal r ++ (codes " into " ++ cell_words i j))
 step_words (Delete r i j) = codes "delete right " ++ (decimal r ++ (codes " from " ++ cell_words i j))
-step_words (Set i k v) = codes "set attribute " ++ of_then k i (codes " to " ++ value_words v)
+step_words (Set i k v) = codes "set attribute " ++ of_then k i (codes " to " ++ decimal v)
 step_words (Create i) = codes "create " ++ decimal i
 step_words (Destroy i) = codes "destroy " ++ decimal i

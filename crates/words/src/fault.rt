@@ -10,15 +10,15 @@ impl fmt::Display for InWords<Fault> {
     ghost output = { λ x. Some (fault_words x.0) };
 
     fn fmt<W: fmt::Write>(&self, f: &mut fmt::Formatter<W>) -> fmt::Result {
-        let layer = self.0.layer.number();
-        let number = self.0.reason.number();
+        let layer = u8::from(self.0.layer);
+        let number = u8::from(self.0.reason);
         let place = self.0.place;
         let words = rule_words(self.0.reason);
         write!(f, "fault {layer} {number} {place} -- {words}")
     }
 }
 
-// The rule that was broken.
+// The rule that was broken. It is no `Display`: it is public, and a text that stands there already can't fail.
 pub fn rule_words(reason: Reason) -> &'static str
     ensures { result.now ≡ reason_words reason }
 {

@@ -29,6 +29,7 @@ impl fmt::Display for Listing<'_> {
 }
 
 fn write_parameters<W: fmt::Write>(f: &mut fmt::Formatter<W>, command: &Command) -> fmt::Result {
+    // The parameters are these numbers; there is no list of them to go over.
     for i in 0..command.params() {
         if i > 0 {
             write!(f, ", ")?;

@@ -3,7 +3,6 @@ ghost use Rattle.std.specs.Prelude.{Some};
 ghost use Rattle.words.specs.Words.{step_words};
 
 use crate::InWords;
-use crate::value::ValueOrNull;
 use scheme::step::Step;
 use std::fmt;
 
@@ -24,10 +23,7 @@ impl fmt::Display for InWords<Step> {
                 parameter,
                 attribute,
                 value,
-            } => {
-                let value = ValueOrNull(value);
-                write!(f, "set attribute {attribute} of {parameter} to {value}")
-            }
+            } => write!(f, "set attribute {attribute} of {parameter} to {value}"),
             Step::Create { parameter } => write!(f, "create {parameter}"),
             Step::Destroy { parameter } => write!(f, "destroy {parameter}"),
         }

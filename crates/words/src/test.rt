@@ -3,7 +3,6 @@ ghost use Rattle.std.specs.Prelude.{Some};
 ghost use Rattle.words.specs.Words.{test_words};
 
 use crate::InWords;
-use crate::value::ValueOrNull;
 use scheme::test::Test;
 use std::fmt;
 
@@ -11,6 +10,7 @@ impl fmt::Display for InWords<Test> {
     ghost output = { λ x. Some (test_words x.0) };
 
     fn fmt<W: fmt::Write>(&self, f: &mut fmt::Formatter<W>) -> fmt::Result {
+        // Arms of one shape differ in their words.
         match self.0 {
             Test::Holds { right, row, column } => write!(
                 f,
@@ -21,7 +21,7 @@ impl fmt::Display for InWords<Test> {
                 attribute,
                 value,
             } => {
-                let value = ValueOrNull(value);
+                let value = InWords(value);
                 write!(f, "attribute {attribute} of {parameter} is {value}")
             }
             Test::IsNot {
@@ -29,7 +29,7 @@ impl fmt::Display for InWords<Test> {
                 attribute,
                 value,
             } => {
-                let value = ValueOrNull(value);
+                let value = InWords(value);
                 write!(f, "attribute {attribute} of {parameter} is not {value}")
             }
             Test::Covers {

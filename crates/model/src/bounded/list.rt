@@ -1,8 +1,8 @@
 // What a bounded list can do.
-ghost use Rattle.std.specs.Prelude.{◌≡◌, ◌<◌, Bool, true, false, List, [], ◌∷◌, ◌++◌, length, if◌then◌else◌, nat_lt};
+ghost use Rattle.std.specs.Prelude.{◌≡◌, ◌<◌, Bool, true, false, List, [], ◌∷◌, ◌++◌, length, if◌then◌else◌, is_ok, nat_lt};
 ghost use Rattle.model.specs.Bounded.{listed};
 
-use crate::bounded::Bounded;
+use crate::bounded::{Bounded, Full};
 
 impl<T: Copy, const N: usize> Bounded<T, N> {
     // The empty list; `filler` stands in the unused room and is never seen.
@@ -21,23 +21,22 @@ impl<T: Copy, const N: usize> Bounded<T, N> {
         self.as_slice().len()
     }
 
-    // One element more at the end, or `false` and no change where the list is full.
-    pub fn push(&mut self, item: T) -> bool
-        ensures room { result ≡ nat_lt (length (listed self.old)) N }
-        ensures items { listed self.new ≡ (if result then listed self.old ++ item ∷ [] else listed self.old) }
+    // One element more at the end, or a refusal and no change where the list is full.
+    pub fn push(&mut self, item: T) -> Result<(), Full>
+        ensures room { is_ok result ≡ nat_lt (length (listed self.old)) N }
+        ensures items { listed self.new ≡ (if is_ok result then listed self.old ++ item ∷ [] else listed self.old) }
     {
         if self.len >= N {
-            return false;
+            return Err(Full);
         }
         self.items[self.len] = item;
         self.len += 1;
-        true
+        Ok(())
     }
 
     pub fn as_slice(&self) -> &[T]
         ensures { result.now ≡ listed self.now }
     {
-        let room = &self.items[..];
-        &room[0..self.len]
+        &self.items[..self.len]
     }
 }

@@ -4,8 +4,8 @@ ghost use Rattle.model.specs.Answers.{refused_by, lowest, unless};
 ghost use Rattle.scheme.specs.Commands.{begun, with_test, with_step, begin_rules, test_rules, step_rules};
 ghost use Rattle.scheme.specs.Views.{view};
 
+use crate::command::parameters::Parameters;
 use crate::command::{Command, STEPS, TESTS};
-use crate::placing::keeps_parameter_rules;
 use crate::step::Step;
 use crate::test::Test;
 use model::bounded::Bounded;
@@ -26,34 +26,29 @@ impl Command {
     pub fn idle() -> Command
         ensures { view result ≡ begun 1 0 }
     {
-        Command {
-            params: 1,
-            cards: 0,
-            tests: Bounded::empty(FILLING_TEST),
-            steps: Bounded::empty(FILLING_STEP),
-        }
+        Command::over(Parameters { count: 1, cards: 0 })
     }
 
-    // A command with no tests and no steps yet.
+    // A command with no tests and no steps yet, or a refusal where its parameters or cards are out of range.
     pub fn begin(params: u8, cards: u8) -> Result<Command, Reason>
         ensures answer { refused_by result ≡ lowest (begin_rules params cards) }
         ensures value { IfOk result (λ m. view m ≡ begun params cards) }
     {
-        if params < 1 || params > 3 {
-            return Err(Reason::OutOfRange);
-        }
-        if cards >= 1 << params {
-            return Err(Reason::OutOfRange);
-        }
-        Ok(Command {
-            params,
-            cards,
-            tests: Bounded::empty(FILLING_TEST),
-            steps: Bounded::empty(FILLING_STEP),
-        })
+        Parameters::new(params, cards).map(Command::over)
     }
 
-    // One test more, at the end.
+    // The command over these parameters with no tests and no steps yet.
+    fn over(parameters: Parameters) -> Command
+        ensures { view result ≡ begun parameters.count parameters.cards }
+    {
+        Command {
+            parameters,
+            tests: Bounded::empty(FILLING_TEST),
+            steps: Bounded::empty(FILLING_STEP),
+        }
+    }
+
+    // One test more, at the end. Rules are tried by their numbers, so a full list is refused before the test is looked at.
     pub fn add_test(&mut self, counts: &Counts, test: Test) -> Result<(), Reason>
         ensures answer { refused_by result ≡ lowest (test_rules counts.now (view self.old) test) }
         ensures after { view self.new ≡ unless (refused_by result) (view self.old) (with_test (view self.old) test) }
@@ -64,17 +59,17 @@ impl Command {
         if self.tests.len() >= TESTS {
             return Err(Reason::TooMany);
         }
-        if !test.is_in_range(self.params, counts) {
+        if !test.is_in_range(self.parameters.count, counts) {
             return Err(Reason::OutOfRange);
         }
-        if !test.is_row_declared(self.cards) {
+        if !test.is_row_declared(self.parameters.cards) {
             return Err(Reason::ParameterRule);
         }
-        self.tests.push(test);
-        Ok(())
+        self.tests.push(test).map_err(|_| Reason::TooMany)
     }
 
-    // One step more, at the end.
+    // One step more, at the end; here too a full list is refused first. A trait that asks both the same questions would need
+    // a ghost member for each of them, and be longer.
     pub fn add_step(&mut self, counts: &Counts, step: Step) -> Result<(), Reason>
         ensures answer { refused_by result ≡ lowest (step_rules counts.now (view self.old) step) }
         ensures after { view self.new ≡ unless (refused_by result) (view self.old) (with_step (view self.old) step) }
@@ -82,18 +77,12 @@ impl Command {
         if self.steps.len() >= STEPS {
             return Err(Reason::TooMany);
         }
-        if !step.is_in_range(self.params, counts) {
+        if !step.is_in_range(self.parameters.count, counts) {
             return Err(Reason::OutOfRange);
         }
-        if !keeps_parameter_rules(
-            self.cards,
-            self.tests.as_slice(),
-            self.steps.as_slice(),
-            step,
-        ) {
+        if !self.before().keeps_parameter_rules(step) {
             return Err(Reason::ParameterRule);
         }
-        self.steps.push(step);
-        Ok(())
+        self.steps.push(step).map_err(|_| Reason::TooMany)
     }
 }

@@ -3,100 +3,94 @@ ghost use Rattle.std.specs.Prelude.{◌≡◌};
 ghost use Rattle.model.specs.Answers.{refused_by, unless, answer};
 ghost use Rattle.scheme.specs.Views.{commands_of};
 ghost use Rattle.scheme_tape.specs.Drafts.{finish};
+ghost use Rattle.scheme_tape.specs.Instructions.{value_read};
 ghost use Rattle.scheme_tape.specs.Said.{said, broken_order, extended_order, taken};
 ghost use Rattle.scheme_tape.specs.Views.{draft_of};
 
 use crate::draft::{Draft, Phase};
 use model::counts::Counts;
 use model::fault::{Fault, Layer, Reason};
+use model::stamp::Value;
 use scheme::scheme::Scheme;
 use scheme::step::Step;
 use scheme::test::Test;
 use tapes::order::Order;
 use tapes::reader::Placed;
 
+// How null is written, by the format of tapes, where a test may compare with it.
+const NULL: u8 = 255;
+
+// The value that a test compares with, where null may stand. `From` for an `Option` of a number is not ours to write.
+fn value_read(byte: u8) -> Option<Value>
+    ensures { result ≡ value_read byte }
+{
+    (byte != NULL).then_some(byte)
+}
+
 impl Draft {
-    // Take in one order, or refuse it by the lowest rule that it breaks and stay as it was.
+    // Take in one order, or refuse it by the lowest rule that it breaks and stay as it was. Arms of one shape differ in the
+    // variant that they make.
     pub(crate) fn obey(&mut self, counts: &Counts, order: Order) -> Result<(), Reason>
         ensures answer { refused_by result ≡ broken_order counts.now (draft_of self.old) (said order.entry) }
         ensures after { draft_of self.new ≡ unless (refused_by result) (draft_of self.old) (extended_order (draft_of self.old) (said order.entry)) }
     {
         match (self.phase(), order) {
-            (Phase::Outside, Order::Begin(x)) => self.begin(x[0], x[1]),
-            (Phase::Tests, Order::Holds(x)) => self.test(
-                counts,
-                Test::Holds {
-                    right: x[0],
-                    row: x[1],
-                    column: x[2],
-                },
-            ),
-            (Phase::Tests, Order::Is(x)) => self.test(
-                counts,
-                Test::Is {
-                    parameter: x[0],
-                    attribute: x[1],
-                    value: x[2],
-                },
-            ),
-            (Phase::Tests, Order::IsNot(x)) => {
+            (Phase::Outside, Order::Begin(&[params, cards])) => self.begin(params, cards),
+            (Phase::Tests, Order::Holds(&[right, row, column])) => {
+                self.test(counts, Test::Holds { right, row, column })
+            }
+            (Phase::Tests, Order::Is(&[parameter, attribute, value])) => {
+                self.test(
+                    counts,
+                    Test::Is {
+                        parameter,
+                        attribute,
+                        value: value_read(value),
+                    },
+                )
+            }
+            (Phase::Tests, Order::IsNot(&[parameter, attribute, value])) => {
                 self.test(
                     counts,
                     Test::IsNot {
-                        parameter: x[0],
-                        attribute: x[1],
-                        value: x[2],
+                        parameter,
+                        attribute,
+                        value: value_read(value),
                     },
                 )
             }
-            (Phase::Tests, Order::Covers(x)) => {
+            (Phase::Tests, Order::Covers(&[upper, attribute, lower])) => {
                 self.test(
                     counts,
                     Test::Covers {
-                        upper: x[0],
-                        attribute: x[1],
-                        lower: x[2],
+                        upper,
+                        attribute,
+                        lower,
                     },
                 )
             }
-            (Phase::Tests | Phase::Steps, Order::Enter(x)) => {
-                self.step(
-                    counts,
-                    Step::Enter {
-                        right: x[0],
-                        row: x[1],
-                        column: x[2],
-                    },
-                )
+            (Phase::Tests | Phase::Steps, Order::Enter(&[right, row, column])) => {
+                self.step(counts, Step::Enter { right, row, column })
             }
-            (Phase::Tests | Phase::Steps, Order::Delete(x)) => {
-                self.step(
-                    counts,
-                    Step::Delete {
-                        right: x[0],
-                        row: x[1],
-                        column: x[2],
-                    },
-                )
+            (Phase::Tests | Phase::Steps, Order::Delete(&[right, row, column])) => {
+                self.step(counts, Step::Delete { right, row, column })
             }
-            (Phase::Tests | Phase::Steps, Order::Set(x)) => {
+            (Phase::Tests | Phase::Steps, Order::Set(&[parameter, attribute, value])) => {
                 self.step(
                     counts,
                     Step::Set {
-                        parameter: x[0],
-                        attribute: x[1],
-                        value: x[2],
+                        parameter,
+                        attribute,
+                        value,
                     },
                 )
             }
-            (Phase::Tests | Phase::Steps, Order::Create(x)) => self.step(
-                counts,
-                Step::Create { parameter: x[0] },
-            ),
-            (Phase::Tests | Phase::Steps, Order::Destroy(x)) => self.step(
-                counts,
-                Step::Destroy { parameter: x[0] },
-            ),
+            (Phase::Tests | Phase::Steps, Order::Create(&[parameter])) => {
+                self.step(counts, Step::Create { parameter })
+            }
+            (Phase::Tests | Phase::Steps, Order::Destroy(&[parameter])) => {
+                self.step(counts, Step::Destroy { parameter })
+            }
             (Phase::Tests | Phase::Steps, Order::End) => self.end(),
             _ => Err(Reason::OutOfPlace),
         }
@@ -107,14 +101,11 @@ impl Draft {
         ensures answer { answer (λ _. tt) result ≡ taken placed.entry.offset (broken_order counts.now (draft_of self.old) (said placed.entry.order)) }
         ensures after { draft_of self.new ≡ unless (broken_order counts.now (draft_of self.old) (said placed.entry.order)) (draft_of self.old) (extended_order (draft_of self.old) (said placed.entry.order)) }
     {
-        match self.obey(counts, placed.order) {
-            Ok(()) => Ok(()),
-            Err(reason) => Err(Fault {
-                layer: Layer::Scheme,
-                reason,
-                place: placed.offset,
-            }),
-        }
+        self.obey(counts, placed.order).map_err(|reason| Fault {
+            layer: Layer::Scheme,
+            reason,
+            place: placed.offset,
+        })
     }
 
     // The scheme, where the tape ends after `end` bytes; it may not end inside a command.

@@ -28,13 +28,8 @@ impl Draft {
     {
         match &self.current {
             None => Phase::Outside,
-            Some(command) => {
-                if command.steps().len() > 0 {
-                    Phase::Steps
-                } else {
-                    Phase::Tests
-                }
-            }
+            Some(command) if command.steps().is_empty() => Phase::Tests,
+            Some(_) => Phase::Steps,
         }
     }
 
@@ -43,29 +38,26 @@ impl Draft {
         ensures answer { (c : Counts) → refused_by result ≡ broken c (draft_of self.old) (begins params cards) }
         ensures after { draft_of self.new ≡ unless (refused_by result) (draft_of self.old) (extended (draft_of self.old) (begins params cards)) }
     {
-        let None = self.current else {
+        if self.current.is_some() {
             return Err(Reason::OutOfPlace);
-        };
+        }
         if self.scheme.len() >= COMMANDS {
             return Err(Reason::TooMany);
         }
-        let command = Command::begin(params, cards)?;
-        self.current = Some(command);
+        self.current = Some(Command::begin(params, cards)?);
         Ok(())
     }
 
-    // Add a test to the open command.
+    // Add a test to the open command. `step` below has the same shape: one function for both would take a closure, and say in
+    // its contract what the closure does, which is longer than the two.
     pub(crate) fn test(&mut self, counts: &Counts, test: Test) -> Result<(), Reason>
         ensures answer { refused_by result ≡ broken counts.now (draft_of self.old) (tests test) }
         ensures after { draft_of self.new ≡ unless (refused_by result) (draft_of self.old) (extended (draft_of self.old) (tests test)) }
     {
-        let Some(command) = self.current else {
-            return Err(Reason::OutOfPlace);
-        };
-        let mut grown = command;
-        grown.add_test(counts, test)?;
-        self.current = Some(grown);
-        Ok(())
+        self.current
+            .as_mut()
+            .ok_or(Reason::OutOfPlace)?
+            .add_test(counts, test)
     }
 
     // Add a step to the open command.
@@ -73,13 +65,10 @@ impl Draft {
         ensures answer { refused_by result ≡ broken counts.now (draft_of self.old) (steps step) }
         ensures after { draft_of self.new ≡ unless (refused_by result) (draft_of self.old) (extended (draft_of self.old) (steps step)) }
     {
-        let Some(command) = self.current else {
-            return Err(Reason::OutOfPlace);
-        };
-        let mut grown = command;
-        grown.add_step(counts, step)?;
-        self.current = Some(grown);
-        Ok(())
+        self.current
+            .as_mut()
+            .ok_or(Reason::OutOfPlace)?
+            .add_step(counts, step)
     }
 
     // End the open command.
@@ -87,11 +76,7 @@ impl Draft {
         ensures answer { (c : Counts) → refused_by result ≡ broken c (draft_of self.old) ends }
         ensures after { draft_of self.new ≡ unless (refused_by result) (draft_of self.old) (extended (draft_of self.old) ends) }
     {
-        let Some(command) = self.current else {
-            return Err(Reason::OutOfPlace);
-        };
-        self.current = None;
-        self.scheme.add(command);
-        Ok(())
+        let command = self.current.take().ok_or(Reason::OutOfPlace)?;
+        self.scheme.add(command)
     }
 }

@@ -2,8 +2,9 @@
 ghost use Rattle.std.specs.Prelude.{◌≡◌, [], is_ok, MatchResult};
 ghost use Rattle.model.specs.Answers.{refused_by, lowest, unless};
 ghost use Rattle.stores.specs.Matrices.{blank, written, takes, write_rules};
-ghost use Rattle.stores.specs.RecordLists.{records_of, in_use, contents, list_cells, list_limit, shown};
+ghost use Rattle.stores.specs.RecordLists.{records_of, in_use, contents, list_limit, shown};
 ghost use Rattle.stores.specs.Records.{Lists};
+ghost use Rattle.std.proofs.Common.{rules};
 
 use crate::list::RecordList;
 use crate::record::Record;
@@ -13,9 +14,11 @@ use model::mask::Mask;
 use model::name::{NAMES, Name};
 
 impl CellStore for RecordList {
-    ghost cells = { list_cells };
+    ghost cells = { shown };
 
     ghost most = { list_limit };
+
+    ghost of_names = { Prim.search rules };
 
     fn read(&self, row: Name, column: Name) -> Mask {
         match self.find(row, column) {

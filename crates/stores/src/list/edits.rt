@@ -1,5 +1,5 @@
 // The edits of a list. Each leaves the records in use the non-empty cells, each once, and each says that the limit stays,
-// as the trait's own do.
+// as the trait's own do. `replace` is the two above it, so the three ask and say alike.
 ghost use Rattle.std.specs.Prelude.{◌≡◌, ◌<◌, [], if◌then◌else◌, Some, None, OnErr, nat_lt};
 ghost use Rattle.std.specs.List.{position};
 ghost use Rattle.model.specs.Answers.{refused_by, unless};

@@ -5,10 +5,10 @@ use Rattle.rulings.proofs.pile.four_filters.Goals as goal
 pub returns : goal.returns
 returns g c =
     each_asked
-    (covers_in g.S0.Scale.count g.S0.Scale.covering)
-    (covers_in g.S1.Scale.count g.S1.Scale.covering)
-    (covers_in g.S2.Scale.count g.S2.Scale.covering)
-    (covers_in g.S3.Scale.count g.S3.Scale.covering)
+    (covers_in g.S0.Scale.COUNT g.S0.Scale.covering)
+    (covers_in g.S1.Scale.COUNT g.S1.Scale.covering)
+    (covers_in g.S2.Scale.COUNT g.S2.Scale.covering)
+    (covers_in g.S3.Scale.COUNT g.S3.Scale.covering)
     c.args.masks
     record {}
     c.over.result
