@@ -9,7 +9,8 @@ use crate::error::ReadError;
 use crate::words::past_blanks;
 use std::alloc::Global;
 
-// With the radix a parameter, this and `decimal` would be the library's call.
+// With the radix a parameter, this and `decimal` would be the library's call. A digit is below 16, so the cast keeps it;
+// `try_from` would be a branch that gives up.
 fn digit(b: u8) -> Option<u8>
     ensures { result ≡ digit_value b }
 {

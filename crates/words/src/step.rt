@@ -10,6 +10,7 @@ impl fmt::Display for InWords<Step> {
     ghost output = { λ x. Some (step_words x.0) };
 
     fn fmt<W: fmt::Write>(&self, f: &mut fmt::Formatter<W>) -> fmt::Result {
+        // Arms of one shape differ in their words.
         match self.0 {
             Step::Enter { right, row, column } => write!(
                 f,
