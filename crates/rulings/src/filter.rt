@@ -71,7 +71,7 @@ impl<S: Scale, R: Ruling + Drop> AttributeFilter<S, R> {
     }
 }
 
-// `covers_in` and its two arguments stand in each contract here and in the pile: a word of specs/ can't take a scale as a type.
+// `covers_in` and its two arguments stand here and in the contracts of the pile: a word of specs/ can't take a scale as a type.
 impl<S: Scale, R: Ruling> Ruling for AttributeFilter<S, R> {
     ghost says = { filter_says (covers_in S.Scale.COUNT S.Scale.covering) R.Ruling.says };
 

@@ -24,7 +24,7 @@ pub struct FilterMasks {
 }
 
 impl FilterMasks {
-    // All 0. Then the cell alone decides, whatever the scales.
+    // All 0. Then the cell alone decides, whatever the scales. A length can't call `from`, so the constant is cast.
     pub fn none() -> FilterMasks
         ensures masks { result ≡ no_masks }
         ensures unfiltered { (covers : ℕ → ℕ → ℕ → Bool) (q : Question) → pile_says covers result q ≡ held q }

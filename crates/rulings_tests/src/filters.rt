@@ -60,7 +60,7 @@ fn on_the_ladder(rt: HostRuntime) -> Result<(), Fail> {
     Ok(())
 }
 
-// The ladder's test over another table, whose rows have the column's attribute elsewhere.
+// The same over labels, by attribute 3 of both stamps, and with full cells only.
 #[test]
 fn on_labels(rt: HostRuntime) -> Result<(), Fail> {
     let by_labels = filter::<Labels>(3)?;

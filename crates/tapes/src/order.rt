@@ -43,8 +43,8 @@ pub enum Order<'a> {
 }
 
 // The order that begins with this byte and has these operands; more operands than it has are left alone. It takes two
-// arguments and has no error to name, so it is no `TryFrom`. That it agrees with the table of orders is proved where orders are
-// read.
+// arguments and has no error to name, so it is no `TryFrom`. The project asks for this enum and for the table of orders; that
+// the two agree is proved where orders are read.
 pub fn decode<'a>(byte: u8, operands: &'a [u8]) -> Option<Order<'a>>
     ensures { option_map case_of result ≡ decoded byte operands.now }
 {
