@@ -71,7 +71,8 @@ impl<S: Scale, R: Ruling + Drop> AttributeFilter<S, R> {
     }
 }
 
-// `covers_in` and its two arguments stand here and in the contracts of the pile: a word of specs/ can't take a scale as a type.
+// `covers_in` and its two arguments stand here and in the contracts of the pile: a word that took both at once would have to
+// name a type that the check makes for the trait.
 impl<S: Scale, R: Ruling> Ruling for AttributeFilter<S, R> {
     ghost says = { filter_says (covers_in S.Scale.COUNT S.Scale.covering) R.Ruling.says };
 
