@@ -3,17 +3,23 @@ ghost use Rattle.std.specs.Prelude.{◌≡◌, Ok, Err};
 ghost use Rattle.kiosk.specs.Answers.{answer_words};
 ghost use Rattle.kiosk.specs.declared.answer.Refusal.{Refusal};
 
+use crate::made::Made;
+use crate::setup::{Setup, StoreChoice};
 use model::fault::Fault;
-use scheme::scheme::Scheme;
+use model::mask::Mask;
+use model::stamp::Attribute;
 use std::fmt;
 use words::InWords;
 use words::listing::Listing;
+use words::mask::MaskDigits;
 
 #[derive(Clone, Copy)]
 pub enum Reply {
     // The scheme is accepted; so many commands it has.
     Accepted(usize),
-    Listing(Scheme),
+    Listing(Made),
+    StoreChosen(StoreChoice),
+    FilterChosen { attribute: Attribute, mask: Mask },
 }
 
 #[derive(Clone, Copy)]
@@ -41,7 +47,16 @@ impl fmt::Display for Reply {
     fn fmt<W: fmt::Write>(&self, f: &mut fmt::Formatter<W>) -> fmt::Result {
         match self {
             Reply::Accepted(count) => write!(f, "ok -- the scheme is accepted; commands: {count}"),
-            Reply::Listing(scheme) => write_list(f, scheme),
+            Reply::Listing(made) => write_list(f, made),
+            Reply::StoreChosen(choice) => write!(
+                f,
+                "ok -- the next register keeps its cells {choice}"
+            ),
+            Reply::FilterChosen { attribute, mask } => write!(
+                f,
+                "ok -- the next register filters by attribute {attribute}; rights: {}",
+                MaskDigits(*mask)
+            ),
         }
     }
 }
@@ -58,10 +73,25 @@ impl fmt::Display for Refusal {
     }
 }
 
-fn write_list<W: fmt::Write>(f: &mut fmt::Formatter<W>, scheme: &Scheme) -> fmt::Result {
-    for (number, command) in scheme.commands().iter().enumerate() {
+// The commands, and then what was chosen for them, as a script says it.
+fn write_list<W: fmt::Write>(f: &mut fmt::Formatter<W>, made: &Made) -> fmt::Result {
+    for (number, command) in made.scheme.commands().iter().enumerate() {
         let listing = Listing { number, command };
         write!(f, "{listing}")?;
     }
+    write_setup(f, &made.setup)?;
     write!(f, "end")
+}
+
+fn write_setup<W: fmt::Write>(f: &mut fmt::Formatter<W>, setup: &Setup) -> fmt::Result {
+    match setup.store {
+        StoreChoice::Board => writeln!(f, "store board")?,
+        StoreChoice::List(records) => writeln!(f, "store list {records}")?,
+    }
+    for (attribute, mask) in setup.filters.each.iter().enumerate() {
+        if *mask != 0 {
+            writeln!(f, "filter {attribute} {}", MaskDigits(*mask))?;
+        }
+    }
+    Ok(())
 }

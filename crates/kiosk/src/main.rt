@@ -3,6 +3,7 @@
 #![tactic(auto)]
 
 mod answer;
+mod made;
 mod session;
 mod setup;
 

@@ -1,27 +1,34 @@
 // What the kiosk keeps from line to line, and what it answers.
-ghost use Rattle.std.specs.Prelude.{◌≡◌, Some, None, MatchResult};
+ghost use Rattle.std.specs.Prelude.{◌≡◌, Some, MatchResult};
 ghost use Rattle.script.specs.Calls.{call_of};
-ghost use Rattle.kiosk.specs.Sessions.{said, state_of, listed, Taken, Answered, LineAnswered};
+ghost use Rattle.kiosk.specs.Sessions.{said, state_of, fresh, listed, Taken, BoardChosen, ListChosen, FilterChosen, Answered, LineAnswered};
 
 use crate::answer::{Answer, Refusal, Reply};
+use crate::made::Made;
+use crate::setup::{Setup, StoreChoice};
 use model::labels::Labels;
 use model::ladder::Ladder;
-use scheme::scheme::Scheme;
+use model::mask::Mask;
+use model::stamp::Attribute;
 use scheme_tape::reader::read_scheme;
 use script::{Call, ReadError, read_line};
 use std::alloc::{AllocError, Global};
 
-// The scheme that was accepted last.
+// What is chosen for the registers that are made from now on, and what the last one was made with.
 #[derive(Drop)]
 pub struct Session {
-    scheme: Option<Scheme>,
+    setup: Setup,
+    made: Option<Made>,
 }
 
 impl Session {
     pub fn new() -> Session
-        ensures { state_of result ≡ None }
+        ensures { state_of result ≡ fresh }
     {
-        Session { scheme: None }
+        Session {
+            setup: Setup::plain(),
+            made: None,
+        }
     }
 
     // An accepted scheme becomes the session's; a refused one leaves the old.
@@ -29,14 +36,38 @@ impl Session {
         ensures { Taken (state_of self.old) tape.now (said (Some result)) (state_of self.new) }
     {
         let scheme = read_scheme::<Ladder, Labels, Labels, Ladder>(tape)?;
-        self.scheme = Some(scheme);
+        self.made = Some(Made {
+            scheme,
+            setup: self.setup,
+        });
         Ok(Reply::Accepted(scheme.len()))
+    }
+
+    fn choose_board(&mut self) -> Answer
+        ensures { BoardChosen (state_of self.old) (said (Some result)) (state_of self.new) }
+    {
+        self.setup.choose_board();
+        Ok(Reply::StoreChosen(StoreChoice::Board))
+    }
+
+    fn choose_list(&mut self, records: usize) -> Answer
+        ensures { ListChosen (state_of self.old) records (said (Some result)) (state_of self.new) }
+    {
+        self.setup.choose_list(records)?;
+        Ok(Reply::StoreChosen(StoreChoice::List(records)))
+    }
+
+    fn choose_filter(&mut self, attribute: Attribute, mask: Mask) -> Answer
+        ensures { FilterChosen (state_of self.old) attribute mask (said (Some result)) (state_of self.new) }
+    {
+        self.setup.choose_filter(attribute, mask)?;
+        Ok(Reply::FilterChosen { attribute, mask })
     }
 
     fn list(&self) -> Answer
         ensures { said (Some result) ≡ listed (state_of self.now) }
     {
-        self.scheme.map(Reply::Listing).ok_or(Refusal::NoScheme)
+        self.made.map(Reply::Listing).ok_or(Refusal::NoScheme)
     }
 
     // Blank lines and remarks have no answer.
@@ -46,6 +77,10 @@ impl Session {
         match call? {
             Call::Scheme(tape) => Some(self.take_scheme(tape.as_slice())),
             Call::List => Some(self.list()),
+            Call::StoreBoard => Some(self.choose_board()),
+            // A `usize` has 64 bits, so the cast keeps the number.
+            Call::StoreList(records) => Some(self.choose_list(records as usize)),
+            Call::Filter { attribute, mask } => Some(self.choose_filter(attribute, mask)),
         }
     }
 

@@ -1,43 +1,70 @@
 -- What a line says, by the text past its blanks, and that it says one thing.
-use Rattle.std.proofs.Common.{◌≡◌, ℕ, ◌<◌, true, false, List, [], ◌∷◌, ◌++◌, length, codes, sym, refl, ap, ◌∙◌, subst, arith}
+use Rattle.std.proofs.Common.{◌≡◌, ℕ, ◌<◌, true, false, cond, ◌⊎◌, List, [], ◌∷◌, ◌++◌, length, codes, sym, refl, ap, ◌∙◌, subst, inl, inr, ⊎_elim, arith}
+use Rattle.std.specs.Str.{bytes_eq}
 use Rattle.std.proofs.lemmas.Bool.{eqb-true, both_ways}
 use Rattle.script.specs.declared.keyword.Keyword.{Keyword}
-use Rattle.script.specs.Words.{Blanks, Begins, past_blanks, front_word, past_word}
+use Rattle.script.specs.Words.{Blanks, Begins, Alone, past_blanks, front_word, past_word}
 use Rattle.script.specs.Hex.{Spells}
+use Rattle.script.specs.Settings.{Sized, Filters}
 use Rattle.script.specs.Keywords.{spelling}
-use Rattle.script.specs.Calls.{Call, nothing, scheme, list, Asks, asks_scheme, asks_list, Says, blank_line, remark_line, call_line, OneCall, silent}
+use Rattle.script.specs.Calls.{Call, nothing, scheme, list, board, records, filter, Asks, asks_scheme, asks_list, asks_board, asks_records, asks_filter, Says, blank_line, remark_line, call_line, OneCall, silent}
 use Rattle.script.proofs.Spelling.{one_spelling}
+use Rattle.script.proofs.Giving.{one_size, board_or_list, one_filter}
 use Rattle.script.proofs.Parting.{margin, margin_blanks, margin_whole, past_margin, blanks_past, past_none, begins_with, begun_by, word_is, one_beginning}
 
 -- what each keyword asks for, read backward
-pub scheme_asks : {key : Keyword} {rest : List ℕ} {call : Call} → Asks key rest call → key ≡ Keyword.Scheme → (bytes : List ℕ) × Spells rest bytes × (call ≡ scheme bytes)
-scheme_asks (asks_scheme {rest} {bytes} s) e = (bytes, s, refl)
-scheme_asks (asks_list rest bs) e = absurd (grind arith)
+abbrev pub Asked : Keyword → List ℕ → Call → Type 0
+Asked Keyword.Scheme rest call = (bytes : List ℕ) × Spells rest bytes × (call ≡ scheme bytes)
+Asked Keyword.List rest call = Blanks rest × (call ≡ list)
+Asked Keyword.Store rest call = (Alone rest (codes "board") × (call ≡ board)) ⊎ ((n : ℕ) × Sized rest n × (call ≡ records n))
+Asked Keyword.Filter rest call = (k : ℕ) × (m : ℕ) × Filters rest k m × (call ≡ filter k m)
 
-pub list_asks : {key : Keyword} {rest : List ℕ} {call : Call} → Asks key rest call → key ≡ Keyword.List → Blanks rest × (call ≡ list)
-list_asks (asks_scheme s) e = absurd (grind arith)
-list_asks (asks_list rest bs) e = (bs, refl)
+pub asked : {key : Keyword} {rest : List ℕ} {call : Call} → Asks key rest call → Asked key rest call
+asked (asks_scheme {rest} {bytes} s) = (bytes, s, refl)
+asked (asks_list rest bs) = (bs, refl)
+asked (asks_board a) = inl (a, refl)
+asked (asks_records {rest} {n} s) = inr (n, s, refl)
+asked (asks_filter {rest} {k} {m} f) = (k, m, f, refl)
 
 one_asked : {key : Keyword} {rest : List ℕ} {c d : Call} → Asks key rest c → Asks key rest d → c ≡ d
-one_asked (asks_scheme s) q =
-    let other = scheme_asks q refl in ap scheme (one_spelling _ _ _ s other.1) ∙ sym other.2
-one_asked (asks_list rest bs) q = sym (list_asks q refl).1
+one_asked (asks_scheme s) q = let other = asked q in ap scheme (one_spelling _ _ _ s other.1) ∙ sym other.2
+one_asked (asks_list rest bs) q = sym (asked q).1
+one_asked (asks_board a) q = ⊎_elim (λ x. sym x.1) (λ x. absurd (board_or_list a x.1)) (asked q)
+one_asked (asks_records s) q =
+    ⊎_elim (λ x. absurd (board_or_list x.0 s)) (λ x. ap records (one_size s x.1) ∙ sym x.2) (asked q)
+one_asked (asks_filter {rest} {k} {m} f) q =
+    let other = asked q in
+    let same = one_filter f other.2 in
+    ap (λ j. filter j m) same.0 ∙ ap (filter other.0) same.1 ∙ sym other.3
+
+-- the keyword that is spelt so
+abbrev spelt_so : List ℕ → Keyword
+spelt_so word =
+    cond (bytes_eq word (codes "scheme")) Keyword.Scheme
+    (cond (bytes_eq word (codes "list")) Keyword.List (cond (bytes_eq word (codes "store")) Keyword.Store Keyword.Filter))
+
+spelt_back : (key : Keyword) → spelt_so (spelling key) ≡ key
+spelt_back Keyword.Scheme = refl
+spelt_back Keyword.List = refl
+spelt_back Keyword.Store = refl
+spelt_back Keyword.Filter = refl
 
 -- two keywords are not spelt alike
 one_key : (j k : Keyword) → spelling j ≡ spelling k → j ≡ k
-one_key Keyword.Scheme Keyword.Scheme e = refl
-one_key Keyword.Scheme Keyword.List e = absurd (grind arith)
-one_key Keyword.List Keyword.Scheme e = absurd (grind arith)
-one_key Keyword.List Keyword.List e = refl
+one_key j k e = sym (spelt_back j) ∙ ap spelt_so e ∙ spelt_back k
 
 -- no keyword is empty or begins like a remark
 some_key : (key : Keyword) → 0 < length (spelling key)
 some_key Keyword.Scheme = omega arith
 some_key Keyword.List = omega arith
+some_key Keyword.Store = omega arith
+some_key Keyword.Filter = omega arith
 
 loud : (key : Keyword) (rest : List ℕ) → silent (spelling key ++ rest) ≡ false
 loud Keyword.Scheme rest = refl
 loud Keyword.List rest = refl
+loud Keyword.Store rest = refl
+loud Keyword.Filter rest = refl
 
 -- a line of blanks and a remark are silent, and a line that begins with a keyword is not
 silent_blanks : (line : List ℕ) → Blanks line → silent (past_blanks line) ≡ true

@@ -2,16 +2,23 @@
 use Rattle.std.specs.Prelude.{◌≡◌, ℕ, Bool, true, List, [], ◌∷◌, ◌++◌, Some, None, vec_items, codes, Option, ◌==◌}
 use Rattle.script.specs.declared.keyword.Keyword.{Keyword}
 use Rattle.script.specs.declared.line.Call.{Call as Asked}
-use Rattle.script.specs.declared.line.Call.TheVariants.{Scheme, List as Listing}
-use Rattle.script.specs.Words.{Blanks, Begins}
+use Rattle.script.specs.declared.line.Call.TheVariants.{Scheme, List as Listing, StoreBoard, StoreList, Filter}
+use Rattle.script.specs.Words.{Blanks, Begins, Alone}
 use Rattle.script.specs.Keywords.{spelling}
 use Rattle.script.specs.Hex.{Spells, Opens}
+use Rattle.script.specs.Settings.{Sized, Filters}
 
 -- What a line can call for. To call for `nothing` is to be passed over.
 pub data Call : Type 0 where
   nothing : Call
   scheme : List ℕ → Call
   list : Call
+  -- Cells are to be kept on a board.
+  board : Call
+  -- Cells are to be kept in a list of so many records.
+  records : ℕ → Call
+  -- A filter is set on an attribute, for the rights of a mask.
+  filter : (attribute mask : ℕ) → Call
 
 -- What a keyword asks for, by the text after it.
 pub data Asks : Keyword → List ℕ → Call → Type 0 where
@@ -19,6 +26,12 @@ pub data Asks : Keyword → List ℕ → Call → Type 0 where
   asks_scheme : {rest bytes : List ℕ} → Spells rest bytes → Asks Keyword.Scheme rest (scheme bytes)
   -- `list` stands alone.
   asks_list : (rest : List ℕ) → Blanks rest → Asks Keyword.List rest list
+  -- `store board` asks for a board.
+  asks_board : {rest : List ℕ} → Alone rest (codes "board") → Asks Keyword.Store rest board
+  -- `store list` asks for a list of the size after it.
+  asks_records : {rest : List ℕ} {n : ℕ} → Sized rest n → Asks Keyword.Store rest (records n)
+  -- `filter` asks for a filter of the attribute and the mask after it.
+  asks_filter : {rest : List ℕ} {k m : ℕ} → Filters rest k m → Asks Keyword.Filter rest (filter k m)
 
 -- `Says line call`: this is what the line says. A line of which these rules show no call is unreadable.
 pub data Says : List ℕ → Call → Type 0 where
@@ -37,6 +50,8 @@ OneCall = (line : List ℕ) (c d : Call) → Says line c → Says line d → c �
 abbrev pub Wants : Keyword → List ℕ → Type 0
 Wants Keyword.Scheme rest = Opens rest
 Wants Keyword.List rest = ⊥
+Wants Keyword.Store rest = ⊥
+Wants Keyword.Filter rest = ⊥
 
 -- Memory is wanted for the call that this line begins.
 pub record Wanting (line : List ℕ) : Type 0 where
@@ -49,6 +64,9 @@ pub record Wanting (line : List ℕ) : Type 0 where
 abbrev pub asked_call : Asked → Call
 asked_call (Scheme tape) = scheme (vec_items tape)
 asked_call Listing = list
+asked_call StoreBoard = board
+asked_call (StoreList n) = records n
+asked_call (Filter k m) = filter k m
 
 abbrev pub call_of : Option Asked → Call
 call_of None = nothing

@@ -5,3 +5,5 @@ use Rattle.script.specs.declared.keyword.Keyword.{Keyword}
 abbrev pub spelling : Keyword → List ℕ
 spelling Keyword.Scheme = codes "scheme"
 spelling Keyword.List = codes "list"
+spelling Keyword.Store = codes "store"
+spelling Keyword.Filter = codes "filter"

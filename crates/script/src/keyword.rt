@@ -7,6 +7,8 @@ ghost use Rattle.script.specs.Keywords.{spelling};
 pub(crate) enum Keyword {
     Scheme,
     List,
+    Store,
+    Filter,
 }
 
 // A word that is none has no error of its own, so this is no `TryFrom`.
@@ -16,6 +18,8 @@ pub(crate) fn find_keyword(word: &[u8]) -> Option<Keyword>
     match word {
         b"scheme" => Some(Keyword::Scheme),
         b"list" => Some(Keyword::List),
+        b"store" => Some(Keyword::Store),
+        b"filter" => Some(Keyword::Filter),
         _ => None,
     }
 }

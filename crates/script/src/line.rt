@@ -6,6 +6,7 @@ ghost use Rattle.script.specs.Reads.{Reads};
 use crate::error::ReadError;
 use crate::hex::read_hex;
 use crate::keyword::{Keyword, find_keyword};
+use crate::settings::{filter_parts, is_board, list_size};
 use crate::words::{only_blanks, past_blanks, split_word};
 use std::alloc::Global;
 
@@ -14,6 +15,12 @@ pub enum Call {
     // The tape of a new scheme.
     Scheme(Vec<u8>),
     List,
+    // Cells are to be kept on a board.
+    StoreBoard,
+    // Cells are to be kept in a list of so many records.
+    StoreList(u32),
+    // A filter is to be set on an attribute, for the rights of a mask.
+    Filter { attribute: u8, mask: u16 },
 }
 
 fn read_scheme(heap: Global, rest: &[u8]) -> Result<Call, ReadError>
@@ -33,6 +40,23 @@ fn read_list(rest: &[u8]) -> Result<Call, ReadError>
     }
 }
 
+fn read_store(rest: &[u8]) -> Result<Call, ReadError>
+    ensures { Reads asked_call (Asks Keyword.Store rest.now) (Wants Keyword.Store rest.now) result }
+{
+    if is_board(rest) {
+        return Ok(Call::StoreBoard);
+    }
+    let records = list_size(rest).ok_or(ReadError::Unreadable)?;
+    Ok(Call::StoreList(records))
+}
+
+fn read_filter(rest: &[u8]) -> Result<Call, ReadError>
+    ensures { Reads asked_call (Asks Keyword.Filter rest.now) (Wants Keyword.Filter rest.now) result }
+{
+    let (attribute, mask) = filter_parts(rest).ok_or(ReadError::Unreadable)?;
+    Ok(Call::Filter { attribute, mask })
+}
+
 // What a keyword asks for with `rest` after it.
 fn read_call(heap: Global, key: Keyword, rest: &[u8]) -> Result<Call, ReadError>
     ensures { Reads asked_call (Asks key rest.now) (Wants key rest.now) result }
@@ -40,6 +64,8 @@ fn read_call(heap: Global, key: Keyword, rest: &[u8]) -> Result<Call, ReadError>
     match key {
         Keyword::Scheme => read_scheme(heap, rest),
         Keyword::List => read_list(rest),
+        Keyword::Store => read_store(rest),
+        Keyword::Filter => read_filter(rest),
     }
 }
 

@@ -14,6 +14,9 @@ mod tests {
             Ok(None) => "nothing",
             Ok(Some(Call::Scheme(_))) => "scheme",
             Ok(Some(Call::List)) => "list",
+            Ok(Some(Call::StoreBoard)) => "board",
+            Ok(Some(Call::StoreList(_))) => "records",
+            Ok(Some(Call::Filter { .. })) => "filter",
             Err(ReadError::Unreadable) => "unreadable",
             Err(ReadError::OutOfMemory(_)) => "out of memory",
         }
@@ -21,6 +24,14 @@ mod tests {
 
     fn is_scheme(heap: Global, line: &[u8], tape: &[u8]) -> bool {
         matches!(read_line(heap, line), Ok(Some(Call::Scheme(bytes))) if bytes.as_slice() == tape)
+    }
+
+    fn is_list_of(heap: Global, line: &[u8], size: u32) -> bool {
+        matches!(read_line(heap, line), Ok(Some(Call::StoreList(records))) if records == size)
+    }
+
+    fn is_filter(heap: Global, line: &[u8], k: u8, rights: u16) -> bool {
+        matches!(read_line(heap, line), Ok(Some(Call::Filter { attribute, mask })) if attribute == k && mask == rights)
     }
 
     // Each of the lines is of the one kind.
@@ -77,6 +88,67 @@ mod tests {
                 "scheme 101",
                 "scheme 1g",
                 "scheme 10 # ten",
+            ],
+        )
+    }
+
+    #[test]
+    fn stores(rt: HostRuntime) -> Result<(), Fail> {
+        let heap = rt.alloc();
+        all_are(&rt, heap, "board", &["store board", "\tstore \t board \r"])?;
+        assert!(rt; is_list_of(heap, b"store list 0", 0));
+        assert!(rt; is_list_of(heap, b"store\tlist  007\t", 7));
+        assert!(rt; is_list_of(heap, b"store list 999999", 999_999));
+        assert!(rt; is_list_of(heap, b"store list 0000000000000000000000000000000012", 12));
+        Ok(())
+    }
+
+    #[test]
+    fn filters(rt: HostRuntime) -> Result<(), Fail> {
+        let heap = rt.alloc();
+        assert!(rt; is_filter(heap, b"filter 0 FFFF", 0, 0xFFFF));
+        assert!(rt; is_filter(heap, b"filter 4 01aB", 4, 0x01AB));
+        assert!(rt; is_filter(heap, b"\tfilter\t0255 \t c00d\r", 255, 0xC00D));
+        Ok(())
+    }
+
+    #[test]
+    fn stores_that_cannot_be_read(rt: HostRuntime) -> Result<(), Fail> {
+        all_are(
+            &rt,
+            rt.alloc(),
+            "unreadable",
+            &[
+                "store",
+                "store tray",
+                "store board x",
+                "store list",
+                "store list 1000000",
+                "store list 1234567890123456789012345678901234567890",
+                "store list 1 2",
+                "store list -1",
+                "store list 1a",
+                "storeboard",
+            ],
+        )
+    }
+
+    #[test]
+    fn filters_that_cannot_be_read(rt: HostRuntime) -> Result<(), Fail> {
+        all_are(
+            &rt,
+            rt.alloc(),
+            "unreadable",
+            &[
+                "filter",
+                "filter 0",
+                "filter 256 0000",
+                "filter A 0000",
+                "filter 0 FFF",
+                "filter 0 FF FF",
+                "filter 0 FFFFF",
+                "filter 0 FFFG",
+                "filter 0 FFFF 0",
             ],
         )
     }
