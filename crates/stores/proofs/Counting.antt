@@ -1,25 +1,8 @@
 -- How many cells are not empty, and what a write makes of that.
-use Rattle.std.proofs.Common.{◌≡◌, ℕ, zero, suc, ◌+◌, ◌*◌, ◌<◌, ◌≤◌, Bool, true, false, sym, refl, ap, ◌∙◌, subst, ⊎_elim, not-suc-le-zero, add-mul, zero-mul, zero-add, add-one, arith}
-use Rattle.std.specs.List.{sum_by, range_with_len}
+use Rattle.std.proofs.Common.{◌≡◌, ℕ, zero, suc, ◌+◌, ◌*◌, ◌<◌, ◌≤◌, Bool, true, false, sym, refl, ap, ◌∙◌, ⊎_elim, not-suc-le-zero, add-mul, zero-mul, add-one, arith}
 use Rattle.std.proofs.lemmas.Bool.{cases_eq}
-use Rattle.std.proofs.lemmas.List.FromFn.{sum_by-map-range_with_len_more}
-use mathlib.Core.List.{map, map-id}
 use Rattle.stores.specs.Matrices.{Matrix, blank, on_names, written, some, one_if, sum_below, row_count, count}
 use Rattle.stores.proofs.Writing.{written_here, written_row, written_column, at_names}
-
-pub sum_more : (f : ℕ → ℕ) (n : ℕ) → sum_below f (n + 1) ≡ sum_below f n + f n
-unfolding sum_below
-sum_more f n = rw add-one refl
-
--- a sum over a range of numbers from 0 on
-pub sum_range : (f : ℕ → ℕ) (n : ℕ) → sum_by f (range_with_len 0 n) ≡ sum_below f n
-unfolding sum_below
-sum_range f zero = refl
-sum_range f (suc n) =
-    let more : sum_by f (map (λ k. k) (range_with_len 0 (n + 1))) ≡ sum_by f (map (λ k. k) (range_with_len 0 n)) + f n =
-    sum_by-map-range_with_len_more f (λ k. k) 0 n n (zero-add n) in
-    subst (λ k. sum_by f (range_with_len 0 k) ≡ sum_below f k) (add-one n)
-    (simp map-id at more ∙ (ap (λ s. s + f n) (sum_range f n) ∙ sym (sum_more f n)))
 
 -- a sum looks only below its end
 pub sum_same : (f g : ℕ → ℕ) (n : ℕ) → ((k : ℕ) → k < n → f k ≡ g k) → sum_below f n ≡ sum_below g n
@@ -92,6 +75,10 @@ count_written f s o m hs ho =
     (λ a ne. sum_same (λ b. one_if (some (written f s o m a b))) (λ b. one_if (some (f a b))) 64
     (λ b _. ap (λ v. one_if (some v)) (written_row f s o m a b ne))) in
     omega arith
+
+-- a cell that is not empty is one of them
+pub count_held : (f : Matrix) (s o : ℕ) → s < 64 → o < 64 → one_if (some (f s o)) ≤ count f
+count_held f s o hs ho = omega (arith, count_written f s o 0 hs ho)
 
 -- Where one cell is empty, there are fewer than 4,096 that are not.
 pub count_room : (f : Matrix) (s o : ℕ) → s < 64 → o < 64 → f s o ≡ 0 → count f < 4096

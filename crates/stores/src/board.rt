@@ -1,8 +1,8 @@
 // A board: one mask for each pair of names, in memory that the caller lends.
-ghost use Rattle.std.specs.Prelude.{◌≡◌, ◌+◌, ◌*◌, ◌&&◌, if◌then◌else◌, Some, None, is_ok, slice_set};
+ghost use Rattle.std.specs.Prelude.{◌≡◌, ◌+◌, ◌*◌, ◌≤◌, ◌&&◌, if◌then◌else◌, Some, None, is_ok, slice_set};
 ghost use Rattle.model.specs.Answers.{accepted, refused, refused_by, lowest, unless};
 ghost use Rattle.stores.specs.Boards.{fits_board, board_limit, shown, emptied};
-ghost use Rattle.stores.specs.Matrices.{is_name, blank, written, row_count, takes, write_rules};
+ghost use Rattle.stores.specs.Matrices.{is_name, blank, written, some, one_if, takes, write_rules};
 ghost use Rattle.stores.specs.Unfit.{made_answer, handed_back};
 ghost use Rattle.std.proofs.Common.{rules};
 
@@ -16,20 +16,23 @@ use std::marker::Model;
 // How many pairs of names there are.
 pub const CELLS: usize = 4096;
 
+// The masks of all cells, and how many of them are not empty.
 #[derive(Drop)]
 pub struct Board<'a> {
     masks: &'a mut [Mask],
+    filled: usize,
 }
 
-// A contract sees a board as its masks, all of them.
+// A contract sees a board as its masks. The number follows from them, so it is in the invariant and not in the view.
 impl<'a> Model for Board<'a> {
-    ghost use Rattle.std.specs.Prelude.{◌≡◌, ℕ, List, length};
+    ghost use Rattle.std.specs.Prelude.{ℕ, List};
+    ghost use Rattle.stores.specs.Boards.{IsBoard};
 
     ghost Value = { List ℕ };
 
     ghost view = { λ b. b.masks.now };
 
-    ghost invariant = { λ b. length b.masks.now ≡ 4096 };
+    ghost invariant = { λ b. IsBoard b.masks.now b.filled };
 }
 
 // Row by row, and in a row column by column; a name over 63 has no place.
@@ -43,8 +46,22 @@ fn place_of(row: Name, column: Name) -> Option<usize>
     }
 }
 
+// How many cells are not empty, after one of them has changed from an old mask to a new one.
+fn filled_after(filled: usize, old: Mask, new: Mask) -> usize
+    requires counted { one_if (some old) ≤ filled }
+    requires limit { filled ≤ board_limit }
+    ensures { result + one_if (some old) ≡ filled + one_if (some new) }
+{
+    match (old == 0, new == 0) {
+        (true, false) => filled + 1,
+        (false, true) => filled - 1,
+        _ => filled,
+    }
+}
+
 impl<'a> Board<'a> {
     // Empties the memory, or hands it back as it was where it is not 4,096 masks.
+    #[tactic(auto, using(crate::proofs::Placing::none_counted))]
     pub fn new(memory: &'a mut [Mask]) -> Result<Board<'a>, Unfit<&'a mut [Mask]>>
         ensures answer { made_answer (λ b. b) result ≡ (if fits_board memory.old then accepted (emptied memory.old) else refused 7 22 0) }
         ensures back { handed_back (λ x. x.now) result ≡ (if fits_board memory.old then None else Some memory.old) }
@@ -58,24 +75,18 @@ impl<'a> Board<'a> {
             return Err(Unfit { fault, memory });
         }
         memory.fill(0);
-        Ok(Board { masks: memory })
+        Ok(Board {
+            masks: memory,
+            filled: 0,
+        })
     }
 
     // Ends the loan and gives the memory back as it stands.
     pub fn into_memory(self) -> &'a mut [Mask]
         ensures { result.now ≡ self.entry }
     {
-        let Board { masks } = self;
+        let Board { masks, filled: _ } = self;
         masks
-    }
-
-    // How many cells of a row are not empty.
-    fn row_filled(&self, row: Name) -> usize
-        ensures { result ≡ row_count (shown self.now) row }
-    {
-        (0..NAMES)
-            .filter(|column| self.read(row, *column) > 0)
-            .count()
     }
 }
 
@@ -100,22 +111,25 @@ impl CellStore for Board<'_> {
         ensures memory { self.new ≡ unless (refused_by result) self.old (slice_set self.old (64 * row + column) mask) }
     {
         let place = place_of(row, column).ok_or(Reason::NoSuchName)?;
+        self.filled = filled_after(self.filled, self.masks[place], mask);
         self.masks[place] = mask;
         Ok(())
     }
 
     fn filled(&self) -> usize {
-        (0..NAMES).map(|row| self.row_filled(row)).sum()
+        self.filled
     }
 
     fn limit(&self) -> usize {
         CELLS
     }
 
+    #[tactic(auto, using(crate::proofs::Placing::none_counted))]
     fn clear(&mut self)
         ensures after { shown self.new ≡ blank }
         ensures memory { self.new ≡ emptied self.old }
     {
         self.masks.fill(0);
+        self.filled = 0;
     }
 }

@@ -1,6 +1,7 @@
 // Boards by their memory.
 use model::fault::{Layer, Reason};
 use model::mask::Mask;
+use model::name::NAMES;
 use std::process::Abort;
 use std::test::Fail;
 use stores::board::Board;
@@ -38,5 +39,23 @@ fn places(rt: HostRuntime) -> Result<(), Fail> {
     let masks = board.into_memory();
     assert!(rt; masks.len() == 4096);
     assert!(rt; masks[66] == 5 && masks[4095] == 6 && masks[0] == 0 && masks[129] == 0);
+    Ok(())
+}
+
+// All cells at a time.
+#[test]
+fn full(rt: HostRuntime) -> Result<(), Fail> {
+    let mut memory = [0; 4096];
+    let mut board = Board::new(&mut memory)
+        .ok()
+        .ok_or("4096 masks are a board")?;
+    for row in 0..NAMES {
+        for column in 0..NAMES {
+            assert!(rt; board.write(row, column, 1).is_ok());
+        }
+    }
+    assert!(rt; board.filled() == 4096 && board.write(0, 0, 2).is_ok());
+    assert!(rt; board.filled() == 4096 && board.write(0, 0, 0).is_ok());
+    assert!(rt; board.filled() == 4095);
     Ok(())
 }

@@ -40,6 +40,18 @@ fn keeps_cells<S: CellStore>(rt: &impl Abort, store: &mut S) {
     assert!(rt; store.filled() == 0 && store.read(63, 63) == 0 && store.limit() == limit);
 }
 
+// The count follows a cell that is filled, written over, emptied and filled again; over an empty store.
+fn counts_cells<S: CellStore>(rt: &impl Abort, store: &mut S) {
+    assert!(rt; store.write(5, 6, 0).is_ok() && store.filled() == 0);
+    assert!(rt; store.write(5, 6, 1).is_ok() && store.filled() == 1);
+    assert!(rt; store.write(5, 6, 2).is_ok() && store.filled() == 1);
+    assert!(rt; store.write(5, 64, 1).is_err() && store.filled() == 1);
+    assert!(rt; store.write(5, 6, 0).is_ok() && store.filled() == 0);
+    assert!(rt; store.write(5, 6, 3).is_ok() && store.filled() == 1);
+    store.clear();
+    assert!(rt; store.filled() == 0 && store.write(5, 6, 4).is_ok() && store.filled() == 1);
+}
+
 #[test]
 fn board(rt: HostRuntime) -> Result<(), Fail> {
     let mut memory = [7; 4096];
@@ -47,6 +59,7 @@ fn board(rt: HostRuntime) -> Result<(), Fail> {
         .ok()
         .ok_or("4096 masks are a board")?;
     keeps_cells(&rt, &mut board);
+    counts_cells(&rt, &mut board);
     Ok(())
 }
 
@@ -60,5 +73,6 @@ fn list(rt: HostRuntime) -> Result<(), Fail> {
     let records = vec![in rt.alloc(); record; 2]?;
     let mut list = RecordList::new(records).map_err(|_| "two records are a list")?;
     keeps_cells(&rt, &mut list);
+    counts_cells(&rt, &mut list);
     Ok(())
 }
