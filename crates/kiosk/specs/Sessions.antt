@@ -87,28 +87,29 @@ pub record Taken (before : State) (tape : List ℕ) (answer : Said) (after : Sta
   pub leaves : after ≡ left reading before
 
 -- A choice is answered by what is said of it, or by its refusal.
-abbrev pub choice_told : {X : Type 0} → Said → Answers.Answer X → Said
-choice_told done (Answers.accepted x) = done
-choice_told done (Answers.refused layer number place) = fault layer number place
+abbrev pub choice_told : Answers.Answer Said → Said
+choice_told (Answers.accepted done) = done
+choice_told (Answers.refused layer number place) = fault layer number place
 
 -- the same session with another setup chosen for the next register
 abbrev pub choosing : State → Setup → State
 choosing s setup = record { chosen = setup; made = s.made }
 
+-- A board can always be chosen.
 abbrev pub BoardChosen : State → Said → State → Type 0
 BoardChosen before answer after = (answer ≡ store Board) × (after ≡ choosing before (with_store before.chosen Board))
 
 -- A list of 1 to 4,096 records is chosen; another is refused, and nothing changes.
 abbrev pub ListChosen : State → (records : ℕ) → Said → State → Type 0
 ListChosen before n answer after =
-    (answer ≡ choice_told (store (Records n)) (if_list n (tt {0}))) × (after ≡ choosing before (with_list before.chosen n))
+    (answer ≡ choice_told (if_list n (store (Records n)))) × (after ≡ choosing before (with_list before.chosen n))
 
 -- A filter by attribute 0 to 3 is chosen; another is refused, and nothing changes.
 abbrev pub FilterChosen : State → (attribute mask : ℕ) → Said → State → Type 0
 FilterChosen before k m answer after =
-    (answer ≡ choice_told (filtered k m) (if_attribute k (tt {0}))) × (after ≡ choosing before (with_filter before.chosen k m))
+    (answer ≡ choice_told (if_attribute k (filtered k m))) × (after ≡ choosing before (with_filter before.chosen k m))
 
--- the commands of the scheme that was accepted last
+-- the listing of the scheme that was accepted last, with what was chosen for it; or that there is none
 abbrev pub listed_of : Option (List Command × Setup) → Said
 listed_of None = no_scheme
 listed_of (Some m) = listing m.0 m.1

@@ -83,6 +83,7 @@ fn write_list<W: fmt::Write>(f: &mut fmt::Formatter<W>, made: &Made) -> fmt::Res
     write!(f, "end")
 }
 
+// A mask of 0 filters nothing, and has no line.
 fn write_setup<W: fmt::Write>(f: &mut fmt::Formatter<W>, setup: &Setup) -> fmt::Result {
     match setup.store {
         StoreChoice::Board => writeln!(f, "store board")?,

@@ -1,6 +1,6 @@
 // What the kiosk keeps from line to line, and what it answers.
 ghost use Rattle.std.specs.Prelude.{◌≡◌, Some, MatchResult};
-ghost use Rattle.script.specs.Calls.{call_of};
+ghost use Rattle.script.specs.Calls.{call_of, Wanting};
 ghost use Rattle.kiosk.specs.Sessions.{said, state_of, fresh, listed, Taken, BoardChosen, ListChosen, FilterChosen, Answered, LineAnswered};
 
 use crate::answer::{Answer, Refusal, Reply};
@@ -31,7 +31,7 @@ impl Session {
         }
     }
 
-    // An accepted scheme becomes the session's; a refused one leaves the old.
+    // An accepted scheme becomes the session's, with what is chosen; a refused one leaves the old.
     fn take_scheme(&mut self, tape: &[u8]) -> Answer
         ensures { Taken (state_of self.old) tape.now (said (Some result)) (state_of self.new) }
     {
@@ -84,10 +84,10 @@ impl Session {
         }
     }
 
-    // Where memory is wanting, the session stays as it was.
+    // Memory can be wanting only for the tape of a scheme; then the session stays as it was.
     #[tactic(auto, using(crate::proofs::Answering::line_answered))]
     pub fn answer_line(&mut self, heap: Global, line: &[u8]) -> Result<Option<Answer>, AllocError>
-        ensures { MatchResult result (λ a. LineAnswered (state_of self.old) line.now (said a) (state_of self.new)) (λ _. self.new ≡ self.old) }
+        ensures { MatchResult result (λ a. LineAnswered (state_of self.old) line.now (said a) (state_of self.new)) (λ _. Wanting line.now × (self.new ≡ self.old)) }
     {
         // An error goes two ways, so no `From` turns it over.
         match read_line(heap, line) {

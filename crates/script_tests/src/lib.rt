@@ -121,6 +121,8 @@ mod tests {
             &[
                 "store",
                 "store tray",
+                "store Board",
+                "store LIST 5",
                 "store board x",
                 "store list",
                 "store list 1000000",

@@ -20,7 +20,7 @@ module _ (f : Matrix) (s o m : ℕ) (hs : s < 64) (ho : o < 64) where
   pub board_decided : (lowest (write_rules board_limit f s o m) ≡ None) × (takes board_limit f s o m ≡ true)
   board_decided = decided board_limit f s o m hs ho true never_full
 
--- masks that show no cell
+-- masks whose cells are all empty are a board's, with the number 0
 pub none_counted : {masks : List ℕ} → length masks ≡ 4096 → shown masks ≡ blank → IsBoard masks 0
 none_counted whole empty = record { whole = whole; counted = sym (ap count empty ∙ count_blank) }
 

@@ -56,6 +56,8 @@ fn full(rt: HostRuntime) -> Result<(), Fail> {
     }
     assert!(rt; board.filled() == 4096 && board.write(0, 0, 2).is_ok());
     assert!(rt; board.filled() == 4096 && board.write(0, 0, 0).is_ok());
-    assert!(rt; board.filled() == 4095);
+    assert!(rt; board.filled() == 4095 && board.write(0, 0, 3).is_ok() && board.filled() == 4096);
+    board.clear();
+    assert!(rt; board.filled() == 0 && board.read(63, 63) == 0);
     Ok(())
 }
