@@ -11,7 +11,7 @@ use Rattle.kiosk.specs.Setups.{store_words}
 -- nothing is said here of how a listing is laid out
 abbrev pub answer_words : Result Reply Refusal → Option (List ℕ)
 answer_words (Ok (Accepted n)) = Some (codes "ok -- the scheme is accepted; commands: " ++ decimal n)
-answer_words (Ok (Listing made)) = None
+answer_words (Ok (Listing s)) = None
 answer_words (Ok (StoreChosen choice)) = Some (codes "ok -- the next register keeps its cells " ++ store_words choice)
 answer_words (Ok (FilterChosen k m)) = Some (codes "ok -- the next register filters by attribute " ++ (decimal k ++ (codes "; rights: " ++ mask_words m)))
 answer_words (Err (Fault f)) = Some (fault_words f)

@@ -12,11 +12,11 @@ use Rattle.scheme_tape.specs.Reading.{SchemeRead}
 use Rattle.script.specs.Calls.{Call, nothing, scheme, list, board, records, filter, Says}
 use Rattle.script.specs.Finds.{Finds}
 use Rattle.stores.specs.RecordLists.{if_list}
+use Rattle.kiosk.specs.declared.accepted.AcceptedScheme.{AcceptedScheme}
 use Rattle.kiosk.specs.declared.answer.Reply.{Reply}
 use Rattle.kiosk.specs.declared.answer.Reply.TheVariants.{Accepted, Listing, StoreChosen, FilterChosen as Filtering}
 use Rattle.kiosk.specs.declared.answer.Refusal.{Refusal}
 use Rattle.kiosk.specs.declared.answer.Refusal.TheVariants.{Fault, NoScheme, BadLine}
-use Rattle.kiosk.specs.declared.made.Made.{Made}
 use Rattle.kiosk.specs.declared.session.Session.{Session}
 use Rattle.kiosk.specs.declared.setup.Setup.{Setup}
 use Rattle.kiosk.specs.declared.setup.StoreChoice.{StoreChoice}
@@ -42,7 +42,7 @@ pub data Said : Type 0 where
 abbrev pub said : Option (Result Reply Refusal) → Said
 said None = silence
 said (Some (Ok (Accepted n))) = ok n
-said (Some (Ok (Listing made))) = listing (commands_of made.scheme) made.setup
+said (Some (Ok (Listing s))) = listing (commands_of s.scheme) s.setup
 said (Some (Ok (StoreChosen choice))) = store choice
 said (Some (Ok (Filtering k m))) = filtered k m
 said (Some (Err (Fault f))) = fault (layer_number f.layer) (reason_number f.reason) f.place
@@ -53,47 +53,43 @@ said (Some (Err BadLine)) = bad_line
 -- was chosen for it.
 pub record State : Type 0 where
   pub chosen : Setup
-  pub made : Option (List Command × Setup)
+  pub accepted : Option (List Command × Setup)
 
 -- a board and no filters are chosen, and no scheme was accepted
 abbrev pub fresh : State
-fresh = record { chosen = plain_setup; made = None }
+fresh = record { chosen = plain_setup; accepted = None }
 
-abbrev pub made_of : Made → List Command × Setup
-made_of m = (commands_of m.scheme, m.setup)
+abbrev pub accepted_of : AcceptedScheme → List Command × Setup
+accepted_of s = (commands_of s.scheme, s.setup)
 
 abbrev pub state_of : Session → State
-state_of s = record { chosen = s.setup; made = option_map made_of s.made }
+state_of s = record { chosen = s.chosen; accepted = option_map accepted_of s.accepted }
 
 -- Attributes 0 and 3 are ladders of eight values, 1 and 2 are labels, of which there are sixteen.
 abbrev pub kiosk_counts : Counts
 kiosk_counts = counts_by 8 16 16 8
 
--- What is said of a reading, and what it leaves: an accepted scheme, with what is chosen, takes the place of the old; a
--- refused one does not. What is chosen stays.
-abbrev pub told : Answers.Answer (List Command) → Said
-told (Answers.accepted commands) = ok (length commands)
-told (Answers.refused layer number place) = fault layer number place
+-- A call is answered by what there is to say of what it hands out, or by its refusal.
+abbrev pub told : {X : Type 0} → (X → Said) → Answers.Answer X → Said
+told say (Answers.accepted x) = say x
+told say (Answers.refused layer number place) = fault layer number place
 
+-- What a reading leaves: an accepted scheme, with what is chosen, takes the place of the old; a refused one does not.
+-- What is chosen stays.
 abbrev pub left : Answers.Answer (List Command) → State → State
-left (Answers.accepted commands) before = record { chosen = before.chosen; made = Some (commands, before.chosen) }
+left (Answers.accepted commands) before = record { chosen = before.chosen; accepted = Some (commands, before.chosen) }
 left (Answers.refused layer number place) before = before
 
 -- A tape is answered by its reading.
 pub record Taken (before : State) (tape : List ℕ) (answer : Said) (after : State) : Type 0 where
   pub reading : Answers.Answer (List Command)
   pub read : SchemeRead kiosk_counts tape reading
-  pub tells : answer ≡ told reading
+  pub tells : answer ≡ told (λ commands. ok (length commands)) reading
   pub leaves : after ≡ left reading before
-
--- A choice is answered by what is said of it, or by its refusal.
-abbrev pub choice_told : Answers.Answer Said → Said
-choice_told (Answers.accepted done) = done
-choice_told (Answers.refused layer number place) = fault layer number place
 
 -- the same session with another setup chosen for the next register
 abbrev pub choosing : State → Setup → State
-choosing s setup = record { chosen = setup; made = s.made }
+choosing s setup = record { chosen = setup; accepted = s.accepted }
 
 -- A board can always be chosen.
 abbrev pub BoardChosen : State → Said → State → Type 0
@@ -102,20 +98,20 @@ BoardChosen before answer after = (answer ≡ store Board) × (after ≡ choosin
 -- A list of 1 to 4,096 records is chosen; another is refused, and nothing changes.
 abbrev pub ListChosen : State → (records : ℕ) → Said → State → Type 0
 ListChosen before n answer after =
-    (answer ≡ choice_told (if_list n (store (Records n)))) × (after ≡ choosing before (with_list before.chosen n))
+    (answer ≡ told store (if_list n (Records n))) × (after ≡ choosing before (with_list before.chosen n))
 
 -- A filter by attribute 0 to 3 is chosen; another is refused, and nothing changes.
 abbrev pub FilterChosen : State → (attribute mask : ℕ) → Said → State → Type 0
 FilterChosen before k m answer after =
-    (answer ≡ choice_told (if_attribute k (filtered k m))) × (after ≡ choosing before (with_filter before.chosen k m))
+    (answer ≡ told (filtered k) (if_attribute k m)) × (after ≡ choosing before (with_filter before.chosen k m))
 
 -- the listing of the scheme that was accepted last, with what was chosen for it; or that there is none
 abbrev pub listed_of : Option (List Command × Setup) → Said
 listed_of None = no_scheme
-listed_of (Some m) = listing m.0 m.1
+listed_of (Some s) = listing s.0 s.1
 
 abbrev pub listed : State → Said
-listed s = listed_of s.made
+listed s = listed_of s.accepted
 
 -- What each call is answered. No call is what an unreadable line has.
 abbrev pub Answered : State → Option Call → Said → State → Type 0

@@ -3,8 +3,8 @@ ghost use Rattle.std.specs.Prelude.{◌≡◌, Ok, Err};
 ghost use Rattle.kiosk.specs.Answers.{answer_words};
 ghost use Rattle.kiosk.specs.declared.answer.Refusal.{Refusal};
 
-use crate::made::Made;
-use crate::setup::{Setup, StoreChoice};
+use crate::accepted::AcceptedScheme;
+use crate::setup::StoreChoice;
 use model::fault::Fault;
 use model::mask::Mask;
 use model::stamp::Attribute;
@@ -17,7 +17,7 @@ use words::mask::MaskDigits;
 pub enum Reply {
     // The scheme is accepted; so many commands it has.
     Accepted(usize),
-    Listing(Made),
+    Listing(AcceptedScheme),
     StoreChosen(StoreChoice),
     FilterChosen { attribute: Attribute, mask: Mask },
 }
@@ -47,7 +47,7 @@ impl fmt::Display for Reply {
     fn fmt<W: fmt::Write>(&self, f: &mut fmt::Formatter<W>) -> fmt::Result {
         match self {
             Reply::Accepted(count) => write!(f, "ok -- the scheme is accepted; commands: {count}"),
-            Reply::Listing(made) => write_list(f, made),
+            Reply::Listing(accepted) => write_list(f, accepted),
             Reply::StoreChosen(choice) => write!(
                 f,
                 "ok -- the next register keeps its cells {choice}"
@@ -74,25 +74,10 @@ impl fmt::Display for Refusal {
 }
 
 // The commands, and then what was chosen for them, as a script says it.
-fn write_list<W: fmt::Write>(f: &mut fmt::Formatter<W>, made: &Made) -> fmt::Result {
-    for (number, command) in made.scheme.commands().iter().enumerate() {
+fn write_list<W: fmt::Write>(f: &mut fmt::Formatter<W>, accepted: &AcceptedScheme) -> fmt::Result {
+    for (number, command) in accepted.scheme.commands().iter().enumerate() {
         let listing = Listing { number, command };
         write!(f, "{listing}")?;
     }
-    write_setup(f, &made.setup)?;
-    write!(f, "end")
-}
-
-// A mask of 0 filters nothing, and has no line.
-fn write_setup<W: fmt::Write>(f: &mut fmt::Formatter<W>, setup: &Setup) -> fmt::Result {
-    match setup.store {
-        StoreChoice::Board => writeln!(f, "store board")?,
-        StoreChoice::List(records) => writeln!(f, "store list {records}")?,
-    }
-    for (attribute, mask) in setup.filters.each.iter().enumerate() {
-        if *mask != 0 {
-            writeln!(f, "filter {attribute} {}", MaskDigits(*mask))?;
-        }
-    }
-    Ok(())
+    write!(f, "{}end", accepted.setup)
 }

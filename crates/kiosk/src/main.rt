@@ -2,8 +2,8 @@
 // each line.
 #![tactic(auto)]
 
+mod accepted;
 mod answer;
-mod made;
 mod session;
 mod setup;
 

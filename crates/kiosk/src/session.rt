@@ -3,8 +3,8 @@ ghost use Rattle.std.specs.Prelude.{◌≡◌, Some, MatchResult};
 ghost use Rattle.script.specs.Calls.{call_of, Wanting};
 ghost use Rattle.kiosk.specs.Sessions.{said, state_of, fresh, listed, Taken, BoardChosen, ListChosen, FilterChosen, Answered, LineAnswered};
 
+use crate::accepted::AcceptedScheme;
 use crate::answer::{Answer, Refusal, Reply};
-use crate::made::Made;
 use crate::setup::{Setup, StoreChoice};
 use model::labels::Labels;
 use model::ladder::Ladder;
@@ -14,11 +14,11 @@ use scheme_tape::reader::read_scheme;
 use script::{Call, ReadError, read_line};
 use std::alloc::{AllocError, Global};
 
-// What is chosen for the registers that are made from now on, and what the last one was made with.
+// What is chosen for the next register, and the scheme that was accepted last.
 #[derive(Drop)]
 pub struct Session {
-    setup: Setup,
-    made: Option<Made>,
+    chosen: Setup,
+    accepted: Option<AcceptedScheme>,
 }
 
 impl Session {
@@ -26,8 +26,8 @@ impl Session {
         ensures { state_of result ≡ fresh }
     {
         Session {
-            setup: Setup::plain(),
-            made: None,
+            chosen: Setup::plain(),
+            accepted: None,
         }
     }
 
@@ -36,9 +36,9 @@ impl Session {
         ensures { Taken (state_of self.old) tape.now (said (Some result)) (state_of self.new) }
     {
         let scheme = read_scheme::<Ladder, Labels, Labels, Ladder>(tape)?;
-        self.made = Some(Made {
+        self.accepted = Some(AcceptedScheme {
             scheme,
-            setup: self.setup,
+            setup: self.chosen,
         });
         Ok(Reply::Accepted(scheme.len()))
     }
@@ -46,28 +46,28 @@ impl Session {
     fn choose_board(&mut self) -> Answer
         ensures { BoardChosen (state_of self.old) (said (Some result)) (state_of self.new) }
     {
-        self.setup.choose_board();
+        self.chosen.choose_board();
         Ok(Reply::StoreChosen(StoreChoice::Board))
     }
 
     fn choose_list(&mut self, records: usize) -> Answer
         ensures { ListChosen (state_of self.old) records (said (Some result)) (state_of self.new) }
     {
-        self.setup.choose_list(records)?;
+        self.chosen.choose_list(records)?;
         Ok(Reply::StoreChosen(StoreChoice::List(records)))
     }
 
     fn choose_filter(&mut self, attribute: Attribute, mask: Mask) -> Answer
         ensures { FilterChosen (state_of self.old) attribute mask (said (Some result)) (state_of self.new) }
     {
-        self.setup.choose_filter(attribute, mask)?;
+        self.chosen.choose_filter(attribute, mask)?;
         Ok(Reply::FilterChosen { attribute, mask })
     }
 
     fn list(&self) -> Answer
         ensures { said (Some result) ≡ listed (state_of self.now) }
     {
-        self.made.map(Reply::Listing).ok_or(Refusal::NoScheme)
+        self.accepted.map(Reply::Listing).ok_or(Refusal::NoScheme)
     }
 
     // Blank lines and remarks have no answer.

@@ -12,6 +12,8 @@ use rulings::pile::FilterMasks;
 use std::fmt;
 use stores::list::memory::list_size;
 
+mod lines;
+
 #[derive(Clone, Copy)]
 pub enum StoreChoice {
     Board,
