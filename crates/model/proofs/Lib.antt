@@ -1,1 +1,4 @@
+pub mod Growing
 pub mod Labels16
+pub mod Rights
+pub mod Unbroken

@@ -1,6 +1,9 @@
 -- Which numbers are values of an attribute, by how many values its scale has.
 use Rattle.std.specs.Prelude.{ℕ, Bool, [], ◌∷◌, Some, None, Option, nat_lt, slice_get, unwrap_or}
+use Rattle.std.specs.List.{list_all, range_with_len}
 use Rattle.model.specs.declared.counts.Counts.{Counts}
+use Rattle.model.specs.declared.stamp.Stamp.{Stamp}
+use Rattle.model.specs.Stamps.{attribute_of}
 
 -- the counts of the scales of attributes 0 to 3
 abbrev pub counts_by : (s0 s1 s2 s3 : ℕ) → Counts
@@ -18,3 +21,7 @@ is_value c k v = nat_lt v (count_of c k)
 abbrev pub is_null_or_value : Counts → (k : ℕ) → (v : Option ℕ) → Bool
 is_null_or_value c k None = nat_lt k 4
 is_null_or_value c k (Some v) = is_value c k v
+
+-- each attribute of a stamp is null or a value of its own scale
+abbrev pub in_scales : Counts → Stamp → Bool
+in_scales c s = list_all (λ k. is_null_or_value c k (attribute_of s k)) (range_with_len 0 4)

@@ -3,6 +3,8 @@ pub mod Bounded
 pub mod Counts
 pub mod Faults
 pub mod Kinds
+pub mod Kiosk
+pub mod Lists
 pub mod Masks
 pub mod Scales
 pub mod Stamps

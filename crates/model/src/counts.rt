@@ -1,9 +1,9 @@
 // How many values each of the four attributes has, as their scales state it.
 ghost use Rattle.std.specs.Prelude.{◌≡◌, Bool};
-ghost use Rattle.model.specs.Counts.{counts_by, is_value, is_null_or_value};
+ghost use Rattle.model.specs.Counts.{counts_by, is_value, is_null_or_value, in_scales};
 
 use crate::scale::Scale;
-use crate::stamp::{ATTRIBUTES, Attribute, PerAttribute, Value};
+use crate::stamp::{ATTRIBUTES, Attribute, PerAttribute, Stamp, Value};
 
 #[derive(Clone, Copy, Debug, PartialEq, Eq)]
 pub struct Counts {
@@ -34,5 +34,11 @@ impl Counts {
         ensures { result ≡ is_null_or_value self.now k v }
     {
         v.map_or(k < ATTRIBUTES, |v| self.is_value(k, v))
+    }
+    // Whether each attribute of a stamp is null or a value of its own scale.
+    pub fn is_in_scales(&self, stamp: &Stamp) -> bool
+        ensures { result ≡ in_scales self.now stamp.now }
+    {
+        (0..ATTRIBUTES).all(|k| self.is_null_or_value(k, stamp.attribute(k)))
     }
 }

@@ -10,4 +10,5 @@ pub mod ladder;
 pub mod mask;
 pub mod name;
 pub mod scale;
+pub mod scales;
 pub mod stamp;

@@ -2,7 +2,7 @@
 use model::fault::Fault;
 use model::labels::Labels;
 use model::ladder::Ladder;
-use scheme::scheme::Scheme;
+use scheme_tape::lawful::LawfulScheme;
 use scheme_tape::reader::read_scheme;
 use std::alloc::{AllocError, Global};
 
@@ -12,8 +12,10 @@ pub const SMALL_KIOSK: [u8; 36] = [
     1, 0x32, 1, 0, 1, 0x1F, 0x10, 1, 0, 0x34, 0, 0x1F,
 ];
 
-pub fn read(tape: &[u8]) -> Result<Scheme, Fault> {
-    read_scheme::<Ladder, Labels, Labels, Ladder>(tape)
+type KioskScales = (Ladder, Labels, Labels, Ladder);
+
+pub fn read(tape: &[u8]) -> Result<LawfulScheme<KioskScales>, Fault> {
+    read_scheme(tape)
 }
 
 // Nothing for an accepted tape, else the fault's layer, number and place.

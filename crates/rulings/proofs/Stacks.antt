@@ -3,13 +3,14 @@ use Rattle.std.proofs.Common.{◌≡◌, ℕ, ◌%◌, ◌^◌, Bool, true, fals
 use mathlib.Core.Bool.{and_comm, and-true}
 use native.Mathlib.Nat.{zero-div}
 use Rattle.model.specs.Masks.{has}
+use Rattle.model.specs.Scales.{four_scales}
 use Rattle.rulings.specs.declared.filter.AttributeFilter.{AttributeFilter}
 use Rattle.rulings.specs.declared.matrix.MatrixRuling.{MatrixRuling}
 use Rattle.rulings.specs.declared.pile.FilterMasks.{FilterMasks}
 use Rattle.rulings.specs.declared.question.Question.{Question}
 use Rattle.rulings.specs.Filters.{filter_by, filter_says, passes}
 use Rattle.rulings.specs.PileMasks.{mask_of, no_masks}
-use Rattle.rulings.specs.Piles.{four_scales, pile_says}
+use Rattle.rulings.specs.Piles.{pile_says}
 use Rattle.rulings.specs.Questions.{held}
 
 -- the empty mask has no right

@@ -1,19 +1,10 @@
 -- What a filter by one attribute asks of a question, and what it answers.
-use Rattle.std.specs.Prelude.{ℕ, Bool, false, not, ◌&&◌, ◌||◌, Some, None, Option, is_none, nat_lt}
+use Rattle.std.specs.Prelude.{ℕ, Bool, not, ◌&&◌, ◌||◌, Option, is_none}
 use Rattle.model.specs.Masks.{has}
+use Rattle.model.specs.Scales.{both_cover}
 use Rattle.model.specs.Stamps.{attribute_of}
 use Rattle.rulings.specs.declared.filter.AttributeFilter.{AttributeFilter}
 use Rattle.rulings.specs.declared.question.Question.{Question}
-
--- in a scale with so many values and this relation, both are values and the first covers the second
-abbrev pub covers_in : (count : ℕ) → (covering : ℕ → ℕ → Bool) → (a b : ℕ) → Bool
-covers_in count covering a b = nat_lt a count && (nat_lt b count && covering a b)
-
--- neither is null, and the first covers the second
-abbrev pub both_cover : (covers : ℕ → ℕ → Bool) → (a b : Option ℕ) → Bool
-both_cover covers None b = false
-both_cover covers (Some a) None = false
-both_cover covers (Some a) (Some b) = covers a b
 
 -- the right is not among these rights, or the row's value of attribute k covers the column's
 abbrev pub passes : (covers : ℕ → ℕ → Bool) → (k rights : ℕ) → Question → Bool

@@ -2,7 +2,8 @@
 ghost use Rattle.std.specs.Prelude.{◌≡◌, false, ◌&&◌};
 ghost use Rattle.model.specs.Answers.{answer};
 ghost use Rattle.rulings.specs.Attributes.{if_attribute};
-ghost use Rattle.rulings.specs.Filters.{covers_in, filter_by, filter_says, meets_null};
+ghost use Rattle.model.specs.Scales.{covers_in};
+ghost use Rattle.rulings.specs.Filters.{filter_by, filter_says, meets_null};
 ghost use Rattle.std.proofs.Common.{rules};
 
 use crate::question::Question;

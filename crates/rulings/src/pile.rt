@@ -2,9 +2,9 @@
 ghost use Rattle.std.specs.Prelude.{◌≡◌, ℕ, Bool};
 ghost use Rattle.model.specs.Answers.{answer};
 ghost use Rattle.rulings.specs.Attributes.{if_attribute};
-ghost use Rattle.rulings.specs.Filters.{covers_in};
+ghost use Rattle.model.specs.Scales.{covers_in, four_scales};
 ghost use Rattle.rulings.specs.PileMasks.{no_masks, with_mask};
-ghost use Rattle.rulings.specs.Piles.{four_scales, pile_says};
+ghost use Rattle.rulings.specs.Piles.{pile_says};
 ghost use Rattle.rulings.specs.Questions.{held};
 ghost use Rattle.rulings.specs.declared.question.Question.{Question};
 

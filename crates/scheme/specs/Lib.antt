@@ -1,5 +1,4 @@
 pub mod Commands
-pub mod Lists
 pub mod Schemes
 pub mod Steps
 pub mod Tests

@@ -2,8 +2,8 @@
 use Rattle.std.specs.Prelude.{Bool, ◌&&◌, List, [], length, nat_le}
 use Rattle.std.specs.List.{list_all}
 use Rattle.model.specs.declared.counts.Counts.{Counts}
+use Rattle.model.specs.Lists.{each_after}
 use Rattle.scheme.specs.Commands.{Command, test_fits, step_fits, begin_in_range}
-use Rattle.scheme.specs.Lists.{each_after}
 use Rattle.scheme.specs.Steps.{step_valued}
 use Rattle.scheme.specs.Tests.{test_valued}
 

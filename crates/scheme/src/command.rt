@@ -2,8 +2,8 @@
 ghost use Rattle.std.specs.Prelude.{◌≡◌, true, []};
 ghost use Rattle.std.specs.List.{list_all};
 ghost use Rattle.model.specs.Bounded.{listed};
+ghost use Rattle.model.specs.Lists.{each_after};
 ghost use Rattle.scheme.specs.Commands.{test_fits, step_fits};
-ghost use Rattle.scheme.specs.Lists.{each_after};
 
 use crate::command::parameters::Parameters;
 use crate::step::Step;

@@ -39,7 +39,7 @@ impl Before<'_> {
     }
 
     // Whether one of the steps destroys the parameter.
-    fn destroys(&self, i: Parameter) -> bool
+    pub(crate) fn destroys(&self, i: Parameter) -> bool
         ensures { result ≡ list_any (destroys_in_step i) self.now.steps.now }
     {
         self.steps.iter().any(|step| step.destroys(i))

@@ -1,7 +1,6 @@
-pub mod Decoding
-pub mod Exits
+pub mod Ending
+pub mod Language
 pub mod Law
 pub mod Lengths
-pub mod Loop
 pub mod Running
 pub mod Shaping

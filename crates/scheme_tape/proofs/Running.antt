@@ -6,10 +6,11 @@ use Rattle.std.proofs.lemmas.Grind.{flat_map-append}
 use Rattle.std.proofs.lemmas.List.Folds.{flat_map-map}
 use Rattle.std.specs.List.{flat_map, list_all}
 use Rattle.model.specs.declared.counts.Counts.{Counts}
+use Rattle.model.specs.Lists.{each_after}
+use Rattle.model.proofs.Unbroken.{from_unbroken}
 use Rattle.scheme.specs.declared.step.Step.{Step}
 use Rattle.scheme.specs.declared.test.Test.{Test}
 use Rattle.scheme.specs.Commands.{Command, test_fits, step_fits, begin_rules, test_rules, step_rules}
-use Rattle.scheme.specs.Lists.{each_after}
 use Rattle.scheme.specs.Schemes.{well_formed_command, well_formed}
 use Rattle.scheme.specs.Steps.{step_valued}
 use Rattle.scheme.specs.Tests.{test_valued}
@@ -18,7 +19,7 @@ use Rattle.tapes.proofs.Reading.{runs_join, codes_join}
 use Rattle.scheme_tape.specs.Drafts.{Draft, scheme_grammar}
 use Rattle.scheme_tape.specs.Encoding.{encode_command, encode}
 use Rattle.scheme_tape.specs.Instructions.{Instruction, begins, tests, steps, ends}
-use Rattle.scheme_tape.proofs.Shaping.{Good, to_good, from_unbroken}
+use Rattle.scheme_tape.proofs.Shaping.{Good, to_good}
 
 module _ (c : Counts) (finished : List Command) (params cards : ℕ) where
   abbrev during : List Test → List Step → Draft

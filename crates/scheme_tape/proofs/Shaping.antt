@@ -1,40 +1,23 @@
 -- Orders that break no rule write a well-formed scheme, and their bytes are its encoding.
-use Rattle.std.proofs.Common.{◌≡◌, ℕ, ◌<◌, ◌≤◌, Bool, true, false, cond, leb, List, [], ◌∷◌, ◌++◌, length, Some, None, Option, sym, refl, ap, ◌∙◌, append_assoc, append-nil, arith, lit≤}
+use Rattle.std.proofs.Common.{◌≡◌, ℕ, ◌<◌, ◌≤◌, true, leb, List, [], ◌∷◌, ◌++◌, length, Some, None, Option, sym, refl, ap, ◌∙◌, append_assoc, append-nil, arith, lit≤}
 use Rattle.std.proofs.lemmas.List.{length_push, nil_from_length}
 use Rattle.std.proofs.lemmas.Bool.{and_parts, and_from, le-leb, leb-true, leb-false, ltb-false, not-false}
 use Rattle.std.proofs.lemmas.Grind.{flat_map-append}
 use Rattle.std.specs.List.{flat_map, list_all}
 use Rattle.model.specs.declared.counts.Counts.{Counts}
-use Rattle.model.specs.Answers.{lowest}
+use Rattle.model.specs.Lists.{each_after}
+use Rattle.model.proofs.Growing.{all_push, each_push}
+use Rattle.model.proofs.Unbroken.{to_unbroken}
 use Rattle.scheme.specs.declared.step.Step.{Step}
 use Rattle.scheme.specs.declared.test.Test.{Test}
 use Rattle.scheme.specs.Commands.{Command, test_fits, step_fits, begin_in_range, begin_rules, test_rules, step_rules}
-use Rattle.scheme.specs.Lists.{each_after}
 use Rattle.scheme.specs.Schemes.{well_formed_command, well_formed}
 use Rattle.scheme.specs.Steps.{step_shaped, step_valued}
 use Rattle.scheme.specs.Tests.{test_shaped, test_valued}
-use Rattle.scheme.proofs.Growing.{all_push, each_push}
 use Rattle.tapes.specs.Grammars.{Runs, done, then, codes, Whole}
 use Rattle.scheme_tape.specs.Drafts.{Draft, empty_draft, broken, extended, scheme_grammar}
 use Rattle.scheme_tape.specs.Encoding.{encode}
 use Rattle.scheme_tape.specs.Instructions.{Instruction, begins, tests, steps, ends, code}
-
--- none of these rules is broken
-abbrev pub Unbroken : List (ℕ × Bool) → Type 0
-Unbroken [] = Unit {0}
-Unbroken (rule ∷ rules) = (rule.1 ≡ false) × Unbroken rules
-
-pub to_unbroken : (rules : List (ℕ × Bool)) → lowest rules ≡ None → Unbroken rules
-to_unbroken [] h = tt
-to_unbroken (rule ∷ rules) h = by rule.1 refl h (to_unbroken rules)
-  where
-    by : (b : Bool) → rule.1 ≡ b → cond b (Some rule.0) (lowest rules) ≡ None → (lowest rules ≡ None → Unbroken rules) → Unbroken (rule ∷ rules)
-    by true is bad on = cc
-    by false is rest on = (is, on rest)
-
-pub from_unbroken : (rules : List (ℕ × Bool)) → Unbroken rules → lowest rules ≡ None
-from_unbroken [] u = refl
-from_unbroken (rule ∷ rules) u = ap (λ b. cond b (Some rule.0) (lowest rules)) u.0 ∙ from_unbroken rules u.1
 
 -- the parts of a well-formed command
 pub record Good (c : Counts) (m : Command) : Type 0 where

@@ -1,11 +1,12 @@
 -- What one order of the scheme tape says, and its bytes. A test's or a step's case has the order byte as its number and
 -- the operands as its values.
-use Rattle.std.specs.Prelude.{ℕ, ◌+◌, ◌-◌, cond, List, [], ◌∷◌, Some, None, Option, ◌==◌, nat_lt}
+use Rattle.std.specs.Prelude.{ℕ, List, [], ◌∷◌}
 use Rattle.scheme.specs.declared.step.Step.{Step}
 use Rattle.scheme.specs.declared.step.Step.TheVariants.{Enter, Delete, Set, Create, Destroy}
 use Rattle.scheme.specs.declared.test.Test.{Test}
 use Rattle.scheme.specs.declared.test.Test.TheVariants.{Holds, Is, IsNot, Covers}
 use Rattle.tapes.specs.Orders.{Case, spelt}
+use Rattle.tapes.specs.Values.{value_on_tape}
 
 -- begin a command with these parameters and declared cards; one test; one step; end the command
 pub data Instruction : Type 0 where
@@ -13,16 +14,6 @@ pub data Instruction : Type 0 where
   tests : Test → Instruction
   steps : Step → Instruction
   ends : Instruction
-
--- A value where null may stand, as a byte: null is 255. A number from there on, which is a value of no scale, moves up by
--- one, so that each has a number of its own.
-abbrev pub value_on_tape : Option ℕ → ℕ
-value_on_tape None = 255
-value_on_tape (Some v) = cond (nat_lt v 255) v (v + 1)
-
--- what such a byte stands for
-abbrev pub value_read : ℕ → Option ℕ
-value_read n = cond (nat_lt n 255) (Some n) (cond (n == 255) None (Some (n - 1)))
 
 abbrev pub test_case : Test → Case
 test_case (Holds r i j) = record { number = 0x20; values = r ∷ i ∷ j ∷ [] }

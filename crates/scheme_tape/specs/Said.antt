@@ -1,13 +1,11 @@
 -- What an order of any tape says on the scheme tape.
 use Rattle.std.specs.Prelude.{ℕ, List, Some, None, Option, slice_index}
-use Rattle.model.specs.declared.counts.Counts.{Counts}
-use Rattle.model.specs.Answers.{Answer, accepted, refused}
 use Rattle.scheme.specs.declared.step.Step.TheVariants.{Enter as EnterStep, Delete as DeleteStep, Set as SetStep, Create as CreateStep, Destroy as DestroyStep}
 use Rattle.scheme.specs.declared.test.Test.TheVariants.{Holds as HoldsTest, Is as IsTest, IsNot as IsNotTest, Covers as CoversTest}
 use Rattle.tapes.specs.declared.order.Order.{Order}
 use Rattle.tapes.specs.declared.order.Order.TheVariants.{Begin, End, Holds, Is, IsNot, Covers, Enter, Delete, Set, Create, Destroy, Card, Thing, Right, Stamp, Allow, Ban}
-use Rattle.scheme_tape.specs.Drafts.{Draft, broken, extended}
-use Rattle.scheme_tape.specs.Instructions.{Instruction, begins, tests, steps, ends, value_read}
+use Rattle.tapes.specs.Values.{value_read}
+use Rattle.scheme_tape.specs.Instructions.{Instruction, begins, tests, steps, ends}
 
 -- operand k
 abbrev pub op : List ℕ → ℕ → ℕ
@@ -32,17 +30,3 @@ said (Right x) = None
 said (Stamp x) = None
 said (Allow x) = None
 said (Ban x) = None
-
--- the lowest rule that the order breaks; one of another tape is out of place
-abbrev pub broken_order : Counts → Draft → Option Instruction → Option ℕ
-broken_order c d None = Some 3
-broken_order c d (Some i) = broken c d i
-
-abbrev pub extended_order : Draft → Option Instruction → Draft
-extended_order d None = d
-extended_order d (Some i) = extended d i
-
--- what taking in an order at a place answers
-abbrev pub taken : (place : ℕ) → Option ℕ → Answer (Unit {0})
-taken place None = accepted tt
-taken place (Some number) = refused 1 number place

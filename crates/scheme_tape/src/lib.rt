@@ -2,4 +2,5 @@
 #![tactic(auto)]
 
 mod draft;
+pub mod lawful;
 pub mod reader;

@@ -1,15 +1,16 @@
 // The scheme reader.
 ghost use Rattle.std.specs.Prelude.{◌≡◌};
 ghost use Rattle.model.specs.Answers.{answer};
-ghost use Rattle.model.specs.Counts.{counts_by};
 ghost use Rattle.scheme.specs.Views.{commands_of};
 ghost use Rattle.scheme_tape.specs.Reading.{SchemeRead, AcceptedExactly, OneReading};
 
 use crate::draft::Draft;
+use crate::lawful::LawfulScheme;
 use model::counts::Counts;
 use model::fault::Fault;
-use model::scale::Scale;
+use model::scales::Scales;
 use scheme::scheme::Scheme;
+use std::marker::PhantomData;
 use tapes::orders::Orders;
 use tapes::tape::Tape;
 
@@ -26,12 +27,16 @@ fn read_by(counts: &Counts, tape: &[u8]) -> Result<Scheme, Fault>
     draft.finish(end)
 }
 
-// The scheme that the tape stands for under any four scales, or the first rule that it breaks.
-pub fn read_scheme<S0: Scale, S1: Scale, S2: Scale, S3: Scale>(tape: &[u8]) -> Result<Scheme, Fault>
-    ensures reading { SchemeRead (counts_by S0.Scale.COUNT S1.Scale.COUNT S2.Scale.COUNT S3.Scale.COUNT) tape.now (answer commands_of result) }
-    ensures exact { AcceptedExactly (counts_by S0.Scale.COUNT S1.Scale.COUNT S2.Scale.COUNT S3.Scale.COUNT) tape.now (answer commands_of result) }
-    ensures law { OneReading (counts_by S0.Scale.COUNT S1.Scale.COUNT S2.Scale.COUNT S3.Scale.COUNT) }
+// The scheme that the tape stands for under these scales, or the first rule that it breaks.
+#[tactic(auto, using(crate::proofs::Law::one_reading, crate::proofs::Law::accepted_exactly))]
+pub fn read_scheme<S: Scales>(tape: &[u8]) -> Result<LawfulScheme<S>, Fault>
+    ensures reading { SchemeRead S.Scales.counts tape.now (answer (λ s. commands_of s.scheme) result) }
+    ensures exact { AcceptedExactly S.Scales.counts tape.now (answer (λ s. commands_of s.scheme) result) }
+    ensures law { OneReading S.Scales.counts }
 {
-    let counts = Counts::of::<S0, S1, S2, S3>();
-    read_by(&counts, tape)
+    let scheme = read_by(&S::counts(), tape)?;
+    Ok(LawfulScheme {
+        scheme,
+        scales: PhantomData,
+    })
 }

@@ -1,6 +1,9 @@
+pub mod Answering
 pub mod Grammars
 pub mod Orders
 pub mod Readers
 pub mod Steps
 pub mod Table
+pub mod Taking
 pub mod Tapes
+pub mod Values

@@ -6,3 +6,4 @@ pub mod orders;
 pub mod reader;
 pub mod table;
 pub mod tape;
+pub mod value;

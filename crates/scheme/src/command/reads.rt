@@ -1,7 +1,7 @@
 // What a command says.
 ghost use Rattle.std.specs.Prelude.{◌≡◌};
 ghost use Rattle.std.specs.List.{list_any};
-ghost use Rattle.scheme.specs.Steps.{creates_in_step};
+ghost use Rattle.scheme.specs.Steps.{creates_in_step, destroys_in_step};
 ghost use Rattle.scheme.specs.Views.{view};
 
 use crate::command::Command;
@@ -52,5 +52,12 @@ impl Command {
         ensures { result ≡ list_any (creates_in_step i) (view self.now).steps }
     {
         self.before().creates(i)
+    }
+
+    // Whether one of the steps destroys the parameter.
+    pub fn destroys(&self, i: Parameter) -> bool
+        ensures { result ≡ list_any (destroys_in_step i) (view self.now).steps }
+    {
+        self.before().destroys(i)
     }
 }

@@ -2,37 +2,28 @@
 ghost use Rattle.std.specs.Prelude.{◌≡◌};
 ghost use Rattle.model.specs.Answers.{refused_by, unless, answer};
 ghost use Rattle.scheme.specs.Views.{commands_of};
-ghost use Rattle.scheme_tape.specs.Drafts.{finish};
-ghost use Rattle.scheme_tape.specs.Instructions.{value_read};
-ghost use Rattle.scheme_tape.specs.Said.{said, broken_order, extended_order, taken};
+ghost use Rattle.tapes.specs.declared.tape.Tape.TheVariants.{Scheme as SchemeTape};
+ghost use Rattle.tapes.specs.Taking.{broken_order, extended_order, taken};
+ghost use Rattle.scheme_tape.specs.Drafts.{scheme_grammar, finish};
+ghost use Rattle.scheme_tape.specs.Said.{said};
 ghost use Rattle.scheme_tape.specs.Views.{draft_of};
 
 use crate::draft::{Draft, Phase};
 use model::counts::Counts;
 use model::fault::{Fault, Layer, Reason};
-use model::stamp::Value;
 use scheme::scheme::Scheme;
 use scheme::step::Step;
 use scheme::test::Test;
 use tapes::order::Order;
 use tapes::reader::Placed;
-
-// How null is written, by the format of tapes, where a test may compare with it.
-const NULL: u8 = 255;
-
-// The value that a test compares with, where null may stand. `From` for an `Option` of a number is not ours to write.
-fn value_read(byte: u8) -> Option<Value>
-    ensures { result ≡ value_read byte }
-{
-    (byte != NULL).then_some(byte)
-}
+use tapes::value::value_read;
 
 impl Draft {
     // Take in one order, or refuse it by the lowest rule that it breaks and stay as it was. Arms of one shape differ in the
     // variant that they make.
     pub(crate) fn obey(&mut self, counts: &Counts, order: Order) -> Result<(), Reason>
-        ensures answer { refused_by result ≡ broken_order counts.now (draft_of self.old) (said order.entry) }
-        ensures after { draft_of self.new ≡ unless (refused_by result) (draft_of self.old) (extended_order (draft_of self.old) (said order.entry)) }
+        ensures answer { refused_by result ≡ broken_order (scheme_grammar counts.now) (draft_of self.old) (said order.entry) }
+        ensures after { draft_of self.new ≡ unless (refused_by result) (draft_of self.old) (extended_order (scheme_grammar counts.now) (draft_of self.old) (said order.entry)) }
     {
         match (self.phase(), order) {
             (Phase::Outside, Order::Begin(&[params, cards])) => self.begin(params, cards),
@@ -98,8 +89,8 @@ impl Draft {
 
     // The same, where a refusal has the order's offset as its place.
     pub(crate) fn take_in(&mut self, counts: &Counts, placed: Placed) -> Result<(), Fault>
-        ensures answer { answer (λ _. tt) result ≡ taken placed.entry.offset (broken_order counts.now (draft_of self.old) (said placed.entry.order)) }
-        ensures after { draft_of self.new ≡ unless (broken_order counts.now (draft_of self.old) (said placed.entry.order)) (draft_of self.old) (extended_order (draft_of self.old) (said placed.entry.order)) }
+        ensures answer { answer (λ _. tt) result ≡ taken SchemeTape placed.entry.offset (broken_order (scheme_grammar counts.now) (draft_of self.old) (said placed.entry.order)) }
+        ensures after { draft_of self.new ≡ unless (broken_order (scheme_grammar counts.now) (draft_of self.old) (said placed.entry.order)) (draft_of self.old) (extended_order (scheme_grammar counts.now) (draft_of self.old) (said placed.entry.order)) }
     {
         self.obey(counts, placed.order).map_err(|reason| Fault {
             layer: Layer::Scheme,

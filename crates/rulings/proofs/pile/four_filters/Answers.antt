@@ -1,4 +1,4 @@
-use Rattle.rulings.specs.Filters.{covers_in}
+use Rattle.model.specs.Scales.{covers_in}
 use Rattle.rulings.proofs.Stacks.{each_asked}
 use Rattle.rulings.proofs.pile.four_filters.Goals as goal
 

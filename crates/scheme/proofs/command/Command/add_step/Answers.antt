@@ -1,9 +1,9 @@
 use Rattle.std.proofs.Common.{rules, ◌≡◌, true, [], ◌∷◌, ◌++◌, ap, ◌∙◌}
 use Rattle.std.proofs.lemmas.Bool.{and_from}
 use Rattle.model.specs.Bounded.{listed}
+use Rattle.model.specs.Lists.{each_after}
+use Rattle.model.proofs.Growing.{each_push}
 use Rattle.scheme.specs.Commands.{step_fits}
-use Rattle.scheme.specs.Lists.{each_after}
-use Rattle.scheme.proofs.Growing.{each_push}
 use Rattle.scheme.proofs.command.Command.add_step.Goals as goal
 
 pub invariant_of-self-clause-stepped : goal.invariant_of-self-clause-stepped

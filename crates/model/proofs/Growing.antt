@@ -3,7 +3,7 @@ use Rattle.std.proofs.Common.{◌≡◌, Bool, ◌&&◌, List, [], ◌∷◌, �
 use Rattle.std.proofs.lemmas.List.Folds.{list_all-append}
 use Rattle.std.proofs.Math.Bool.{and_assoc, and-true}
 use Rattle.std.specs.List.{list_all}
-use Rattle.scheme.specs.Lists.{each_after}
+use Rattle.model.specs.Lists.{each_after}
 
 pub all_push : {X : Type 0} (f : X → Bool) (xs : List X) (x : X) → list_all f (xs ++ x ∷ []) ≡ (list_all f xs && f x)
 all_push f xs x = list_all-append f xs (x ∷ []) ∙ ap (λ b. list_all f xs && b) (and-true (f x))
