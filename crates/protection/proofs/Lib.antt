@@ -1,0 +1,13 @@
+pub mod Frames
+pub mod Keeping
+pub mod Naming
+pub mod Outside
+pub mod Places
+pub mod Placing
+pub mod Requests
+pub mod Serving
+pub mod Shaping
+pub mod Sound
+pub mod States
+pub mod Tables
+pub mod Wholes

@@ -1,0 +1,11 @@
+pub mod Commands
+pub mod Entries
+pub mod Excerpts
+pub mod Frames
+pub mod Operations
+pub mod Places
+pub mod Requests
+pub mod Sound
+pub mod Standing
+pub mod States
+pub mod Tables
