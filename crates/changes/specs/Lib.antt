@@ -1,0 +1,4 @@
+pub mod Changes
+pub mod Making
+pub mod Names
+pub mod Puts
