@@ -1,0 +1,8 @@
+use Rattle.scheme.specs.Views.{view}
+use Rattle.protection.specs.Requests.{card_wrong}
+use Rattle.protection.specs.Tables.{protection_of}
+use Rattle.protection.proofs.Requests.{Clear}
+use Rattle.register.proofs.admission.first_no_subject.Given as goal
+
+abbrev pub invariant-loop-i : goal.invariant-loop-i
+invariant-loop-i l = Clear (card_wrong (view l.command) (protection_of l.seen)) 0 l.i
