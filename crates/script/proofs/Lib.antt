@@ -1,5 +1,6 @@
 mod Finding
 mod Giving
+mod Leading
 mod Masking
 mod Numbering
 mod Parting

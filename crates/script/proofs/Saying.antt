@@ -6,10 +6,12 @@ use Rattle.script.specs.declared.keyword.Keyword.{Keyword}
 use Rattle.script.specs.Words.{Blanks, Begins, Alone, past_blanks, front_word, past_word}
 use Rattle.script.specs.Hex.{Spells}
 use Rattle.script.specs.Settings.{Sized, Filters}
+use Rattle.script.specs.Series.{Series}
 use Rattle.script.specs.Keywords.{spelling}
-use Rattle.script.specs.Calls.{Call, nothing, scheme, list, board, records, filter, Asks, asks_scheme, asks_list, asks_board, asks_records, asks_filter, Says, blank_line, remark_line, call_line, OneCall, silent}
+use Rattle.script.specs.Calls.{Call, nothing, scheme, list, board, records, filter, «open», request, rule, state, Asks, asks_scheme, asks_list, asks_board, asks_records, asks_filter, asks_open, asks_request, asks_rule, asks_state, Says, blank_line, remark_line, call_line, OneCall, silent}
 use Rattle.script.proofs.Spelling.{one_spelling}
 use Rattle.script.proofs.Giving.{one_size, board_or_list, one_filter}
+use Rattle.script.proofs.Leading.{one_series}
 use Rattle.script.proofs.Parting.{margin, margin_blanks, margin_whole, past_margin, blanks_past, past_none, begins_with, begun_by, word_is, one_beginning}
 
 -- what each keyword asks for, read backward
@@ -18,6 +20,10 @@ Asked Keyword.Scheme rest call = (bytes : List ℕ) × Spells rest bytes × (cal
 Asked Keyword.List rest call = Blanks rest × (call ≡ list)
 Asked Keyword.Store rest call = (Alone rest (codes "board") × (call ≡ board)) ⊎ ((n : ℕ) × Sized rest n × (call ≡ records n))
 Asked Keyword.Filter rest call = (k : ℕ) × (m : ℕ) × Filters rest k m × (call ≡ filter k m)
+Asked Keyword.Open rest call = (bytes : List ℕ) × Spells rest bytes × (call ≡ «open» bytes)
+Asked Keyword.Request rest call = (command : ℕ) × (names : List ℕ) × Series rest (command ∷ names) × (call ≡ request command names)
+Asked Keyword.Rule rest call = (s : ℕ) × (o : ℕ) × (r : ℕ) × Series rest (s ∷ o ∷ r ∷ []) × (call ≡ rule s o r)
+Asked Keyword.State rest call = Blanks rest × (call ≡ state)
 
 pub asked : {key : Keyword} {rest : List ℕ} {call : Call} → Asks key rest call → Asked key rest call
 asked (asks_scheme {rest} {bytes} s) = (bytes, s, refl)
@@ -25,6 +31,10 @@ asked (asks_list rest bs) = (bs, refl)
 asked (asks_board a) = inl (a, refl)
 asked (asks_records {rest} {n} s) = inr (n, s, refl)
 asked (asks_filter {rest} {k} {m} f) = (k, m, f, refl)
+asked (asks_open {rest} {bytes} s) = (bytes, s, refl)
+asked (asks_request {rest} {names} {command} s) = (command, names, s, refl)
+asked (asks_rule {rest} {s} {o} {r} n) = (s, o, r, n, refl)
+asked (asks_state rest bs) = (bs, refl)
 
 one_asked : {key : Keyword} {rest : List ℕ} {c d : Call} → Asks key rest c → Asks key rest d → c ≡ d
 one_asked (asks_scheme s) q = let other = asked q in ap scheme (one_spelling _ _ _ s other.1) ∙ sym other.2
@@ -36,35 +46,62 @@ one_asked (asks_filter {rest} {k} {m} f) q =
     let other = asked q in
     let same = one_filter f other.2 in
     ap (λ j. filter j m) same.0 ∙ ap (filter other.0) same.1 ∙ sym other.3
+one_asked (asks_open s) q = let other = asked q in ap «open» (one_spelling _ _ _ s other.1) ∙ sym other.2
+one_asked (asks_request s) q =
+    let other = asked q in
+    let same = one_series s (other.0 ∷ other.1) other.2 in
+    let is = other.3 in
+    cc
+one_asked (asks_rule n) q =
+    let other = asked q in
+    let same = one_series n (other.0 ∷ other.1 ∷ other.2 ∷ []) other.3 in
+    let is = other.4 in
+    cc
+one_asked (asks_state rest bs) q = sym (asked q).1
 
 -- the keyword that is spelt so
 abbrev spelt_so : List ℕ → Keyword
 spelt_so word =
     cond (bytes_eq word (codes "scheme")) Keyword.Scheme
-    (cond (bytes_eq word (codes "list")) Keyword.List (cond (bytes_eq word (codes "store")) Keyword.Store Keyword.Filter))
+    (cond (bytes_eq word (codes "list")) Keyword.List
+    (cond (bytes_eq word (codes "store")) Keyword.Store
+    (cond (bytes_eq word (codes "filter")) Keyword.Filter
+    (cond (bytes_eq word (codes "open")) Keyword.Open
+    (cond (bytes_eq word (codes "request")) Keyword.Request
+    (cond (bytes_eq word (codes "rule")) Keyword.Rule Keyword.State))))))
 
 spelt_back : (key : Keyword) → spelt_so (spelling key) ≡ key
 spelt_back Keyword.Scheme = refl
 spelt_back Keyword.List = refl
 spelt_back Keyword.Store = refl
 spelt_back Keyword.Filter = refl
+spelt_back Keyword.Open = refl
+spelt_back Keyword.Request = refl
+spelt_back Keyword.Rule = refl
+spelt_back Keyword.State = refl
 
 -- two keywords are not spelt alike
 one_key : (j k : Keyword) → spelling j ≡ spelling k → j ≡ k
 one_key j k e = sym (spelt_back j) ∙ ap spelt_so e ∙ spelt_back k
 
--- no keyword is empty or begins like a remark
-some_key : (key : Keyword) → 0 < length (spelling key)
-some_key Keyword.Scheme = omega arith
-some_key Keyword.List = omega arith
-some_key Keyword.Store = omega arith
-some_key Keyword.Filter = omega arith
-
+-- no keyword begins like a remark
 loud : (key : Keyword) (rest : List ℕ) → silent (spelling key ++ rest) ≡ false
 loud Keyword.Scheme rest = refl
 loud Keyword.List rest = refl
 loud Keyword.Store rest = refl
 loud Keyword.Filter rest = refl
+loud Keyword.Open rest = refl
+loud Keyword.Request rest = refl
+loud Keyword.Rule rest = refl
+loud Keyword.State rest = refl
+
+-- nor is one empty
+some : (word : List ℕ) → silent (word ++ []) ≡ false → 0 < length word
+some [] is = absurd (grind arith)
+some (b ∷ word) is = omega arith
+
+some_key : (key : Keyword) → 0 < length (spelling key)
+some_key key = some (spelling key) (loud key [])
 
 -- a line of blanks and a remark are silent, and a line that begins with a keyword is not
 silent_blanks : (line : List ℕ) → Blanks line → silent (past_blanks line) ≡ true

@@ -2,11 +2,12 @@
 use Rattle.std.specs.Prelude.{◌≡◌, ℕ, Bool, true, List, [], ◌∷◌, ◌++◌, Some, None, vec_items, codes, Option, ◌==◌}
 use Rattle.script.specs.declared.keyword.Keyword.{Keyword}
 use Rattle.script.specs.declared.line.Call.{Call as Asked}
-use Rattle.script.specs.declared.line.Call.TheVariants.{Scheme, List as Listing, StoreBoard, StoreList, Filter}
+use Rattle.script.specs.declared.line.Call.TheVariants.{Scheme, List as Listing, StoreBoard, StoreList, Filter, Open, Request, Rule, State}
 use Rattle.script.specs.Words.{Blanks, Begins, Alone}
 use Rattle.script.specs.Keywords.{spelling}
 use Rattle.script.specs.Hex.{Spells, Opens}
 use Rattle.script.specs.Settings.{Sized, Filters}
+use Rattle.script.specs.Series.{Series, Named}
 
 -- What a line can call for. To call for `nothing` is to be passed over.
 pub data Call : Type 0 where
@@ -19,6 +20,13 @@ pub data Call : Type 0 where
   records : ℕ → Call
   -- A filter is set on an attribute, for the rights of a mask.
   filter : (attribute mask : ℕ) → Call
+  -- The register is opened by a tape. The quotes keep the word apart from one of antt's own.
+  «open» : List ℕ → Call
+  -- A command is asked for, with names for its parameters.
+  request : (command : ℕ) → (names : List ℕ) → Call
+  -- A right is asked about, in the cell of a row and a column.
+  rule : (row column right : ℕ) → Call
+  state : Call
 
 -- What a keyword asks for, by the text after it.
 pub data Asks : Keyword → List ℕ → Call → Type 0 where
@@ -32,6 +40,14 @@ pub data Asks : Keyword → List ℕ → Call → Type 0 where
   asks_records : {rest : List ℕ} {n : ℕ} → Sized rest n → Asks Keyword.Store rest (records n)
   -- `filter` asks for a filter of the attribute and the mask after it.
   asks_filter : {rest : List ℕ} {k m : ℕ} → Filters rest k m → Asks Keyword.Filter rest (filter k m)
+  -- `open` asks for an opening of the bytes that are spelt after it, which may be none.
+  asks_open : {rest bytes : List ℕ} → Spells rest bytes → Asks Keyword.Open rest («open» bytes)
+  -- `request` asks for the command of the first number after it, with the names of the others, which may be none.
+  asks_request : {rest names : List ℕ} {command : ℕ} → Series rest (command ∷ names) → Asks Keyword.Request rest (request command names)
+  -- `rule` asks about the three numbers after it: a row, a column and a right.
+  asks_rule : {rest : List ℕ} {s o r : ℕ} → Series rest (s ∷ o ∷ r ∷ []) → Asks Keyword.Rule rest (rule s o r)
+  -- `state` stands alone.
+  asks_state : (rest : List ℕ) → Blanks rest → Asks Keyword.State rest state
 
 -- `Says line call`: this is what the line says. A line of which these rules show no call is unreadable.
 pub data Says : List ℕ → Call → Type 0 where
@@ -46,12 +62,17 @@ pub data Says : List ℕ → Call → Type 0 where
 abbrev pub OneCall : Type 0
 OneCall = (line : List ℕ) (c d : Call) → Says line c → Says line d → c ≡ d
 
--- Memory is wanted for the bytes of a scheme, if it has a first one, and for no other call.
+-- Memory is wanted for the bytes of a scheme or of an opening, if there is a first one, for the names of a request, if
+-- there are a command and a first one, and for no other call.
 abbrev pub Wants : Keyword → List ℕ → Type 0
 Wants Keyword.Scheme rest = Opens rest
 Wants Keyword.List rest = ⊥
 Wants Keyword.Store rest = ⊥
 Wants Keyword.Filter rest = ⊥
+Wants Keyword.Open rest = Opens rest
+Wants Keyword.Request rest = Named rest
+Wants Keyword.Rule rest = ⊥
+Wants Keyword.State rest = ⊥
 
 -- Memory is wanted for the call that this line begins.
 pub record Wanting (line : List ℕ) : Type 0 where
@@ -67,6 +88,10 @@ asked_call Listing = list
 asked_call StoreBoard = board
 asked_call (StoreList n) = records n
 asked_call (Filter k m) = filter k m
+asked_call (Open tape) = «open» (vec_items tape)
+asked_call (Request command names) = request command (vec_items names)
+asked_call (Rule row column right) = rule row column right
+asked_call State = state
 
 abbrev pub call_of : Option Asked → Call
 call_of None = nothing

@@ -3,6 +3,7 @@ pub mod Reads
 pub mod Words
 pub mod Hex
 pub mod Numbers
+pub mod Series
 pub mod Settings
 pub mod Keywords
 pub mod Calls

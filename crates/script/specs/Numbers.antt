@@ -1,5 +1,6 @@
 -- What number a word of decimal digits writes.
-use Rattle.std.specs.Prelude.{◌≡◌, ℕ, ◌+◌, ◌-◌, ◌*◌, ◌^◌, if◌then◌else◌, ◌&&◌, List, [], ◌∷◌, length, Some, None, Option, nat_le}
+use Rattle.std.specs.Prelude.{◌≡◌, ℕ, ◌+◌, ◌-◌, ◌*◌, ◌^◌, ◌≤◌, if◌then◌else◌, ◌&&◌, List, [], ◌∷◌, length, Some, None, Option, nat_le}
+use Rattle.script.specs.Words.{Begins}
 
 -- The value of a decimal digit, `0` to `9`. Any other byte has none.
 abbrev pub decimal_value : ℕ → Option ℕ
@@ -11,6 +12,13 @@ pub data Number : List ℕ → ℕ → Type 0 where
   one_digit : {b d : ℕ} → decimal_value b ≡ Some d → Number (b ∷ []) d
   -- A digit before others weighs ten to the power of how many they are.
   more_digits : {b d n : ℕ} {word : List ℕ} → decimal_value b ≡ Some d → Number word n → Number (b ∷ word) (d * 10 ^ length word + n)
+
+-- `Leads text n rest`: the first word of the text writes the number n, 255 at most, and the rest comes after it.
+pub record Leads (text : List ℕ) (n : ℕ) (rest : List ℕ) : Type 0 where
+  pub word : List ℕ
+  pub begun : Begins text word rest
+  pub number : Number word n
+  pub within : n ≤ 255
 
 -- What follows is what a reader takes off the front of a word.
 

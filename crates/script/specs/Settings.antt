@@ -1,7 +1,7 @@
 -- What follows `store` and `filter`.
 use Rattle.std.specs.Prelude.{ℕ, ◌≤◌, List, codes}
 use Rattle.script.specs.Words.{Begins, Alone}
-use Rattle.script.specs.Numbers.{Number}
+use Rattle.script.specs.Numbers.{Number, Leads}
 use Rattle.script.specs.Hex.{Mask}
 
 -- `Sized text n`: the text is the word `list` and one more word, which writes the number n, 999999 at most.
@@ -15,11 +15,8 @@ pub record Sized (text : List ℕ) (n : ℕ) : Type 0 where
 
 -- `Filters text k m`: the text is two words. The first writes the number k, 255 at most, and the second the mask m.
 pub record Filters (text : List ℕ) (k m : ℕ) : Type 0 where
-  pub digits : List ℕ
   pub more : List ℕ
   pub last : List ℕ
-  pub begun : Begins text digits more
+  pub leads : Leads text k more
   pub alone : Alone more last
-  pub number : Number digits k
-  pub within : k ≤ 255
   pub mask : Mask last m

@@ -9,6 +9,10 @@ pub(crate) enum Keyword {
     List,
     Store,
     Filter,
+    Open,
+    Request,
+    Rule,
+    State,
 }
 
 // A word that is none has no error of its own, so this is no `TryFrom`.
@@ -20,6 +24,10 @@ pub(crate) fn find_keyword(word: &[u8]) -> Option<Keyword>
         b"list" => Some(Keyword::List),
         b"store" => Some(Keyword::Store),
         b"filter" => Some(Keyword::Filter),
+        b"open" => Some(Keyword::Open),
+        b"request" => Some(Keyword::Request),
+        b"rule" => Some(Keyword::Rule),
+        b"state" => Some(Keyword::State),
         _ => None,
     }
 }

@@ -6,6 +6,7 @@ mod hex;
 mod keyword;
 mod line;
 mod number;
+mod series;
 mod settings;
 mod words;
 

@@ -2,10 +2,13 @@
 ghost use Rattle.std.specs.Prelude.{◌≡◌};
 ghost use Rattle.script.specs.Calls.{Asks, Says, OneCall, Wants, Wanting, asked_call, call_of, silent};
 ghost use Rattle.script.specs.Reads.{Reads};
+ghost use Rattle.script.specs.Words.{Blanks};
 
 use crate::error::ReadError;
 use crate::hex::read_hex;
 use crate::keyword::{Keyword, find_keyword};
+use crate::number::first_number;
+use crate::series::{read_series, three_numbers};
 use crate::settings::{filter_parts, is_board, list_size};
 use crate::words::{only_blanks, past_blanks, split_word};
 use std::alloc::Global;
@@ -21,23 +24,22 @@ pub enum Call {
     StoreList(u32),
     // A filter is to be set on an attribute, for the rights of a mask.
     Filter { attribute: u8, mask: u16 },
+    // The tape of an opening.
+    Open(Vec<u8>),
+    // A command is asked for, with names for its parameters.
+    Request { command: u8, names: Vec<u8> },
+    // A right is asked about, in the cell of a row and a column.
+    Rule { row: u8, column: u8, right: u8 },
+    State,
 }
 
-fn read_scheme(heap: Global, rest: &[u8]) -> Result<Call, ReadError>
-    ensures { Reads asked_call (Asks Keyword.Scheme rest.now) (Wants Keyword.Scheme rest.now) result }
+// A call that takes no words.
+fn lone_call(rest: &[u8], call: Call) -> Result<Call, ReadError>
+    ensures { Reads asked_call (λ c. Blanks rest.now × (c ≡ asked_call call)) ⊥ result }
 {
-    Ok(Call::Scheme(read_hex(heap, rest)?))
-}
-
-// A list takes no words.
-fn read_list(rest: &[u8]) -> Result<Call, ReadError>
-    ensures { Reads asked_call (Asks Keyword.List rest.now) (Wants Keyword.List rest.now) result }
-{
-    if only_blanks(rest) {
-        Ok(Call::List)
-    } else {
-        Err(ReadError::Unreadable)
-    }
+    only_blanks(rest)
+        .then_some(call)
+        .ok_or(ReadError::Unreadable)
 }
 
 fn read_store(rest: &[u8]) -> Result<Call, ReadError>
@@ -57,15 +59,34 @@ fn read_filter(rest: &[u8]) -> Result<Call, ReadError>
     Ok(Call::Filter { attribute, mask })
 }
 
+fn read_request(heap: Global, rest: &[u8]) -> Result<Call, ReadError>
+    ensures { Reads asked_call (Asks Keyword.Request rest.now) (Wants Keyword.Request rest.now) result }
+{
+    let (command, rest) = first_number(rest).ok_or(ReadError::Unreadable)?;
+    let names = read_series(heap, rest)?;
+    Ok(Call::Request { command, names })
+}
+
+fn read_rule(rest: &[u8]) -> Result<Call, ReadError>
+    ensures { Reads asked_call (Asks Keyword.Rule rest.now) (Wants Keyword.Rule rest.now) result }
+{
+    let (row, column, right) = three_numbers(rest).ok_or(ReadError::Unreadable)?;
+    Ok(Call::Rule { row, column, right })
+}
+
 // What a keyword asks for with `rest` after it.
 fn read_call(heap: Global, key: Keyword, rest: &[u8]) -> Result<Call, ReadError>
     ensures { Reads asked_call (Asks key rest.now) (Wants key rest.now) result }
 {
     match key {
-        Keyword::Scheme => read_scheme(heap, rest),
-        Keyword::List => read_list(rest),
+        Keyword::Scheme => Ok(Call::Scheme(read_hex(heap, rest)?)),
+        Keyword::List => lone_call(rest, Call::List),
         Keyword::Store => read_store(rest),
         Keyword::Filter => read_filter(rest),
+        Keyword::Open => Ok(Call::Open(read_hex(heap, rest)?)),
+        Keyword::Request => read_request(heap, rest),
+        Keyword::Rule => read_rule(rest),
+        Keyword::State => lone_call(rest, Call::State),
     }
 }
 
@@ -76,7 +97,8 @@ fn is_silent(text: &[u8]) -> bool
     matches!(text, [] | [b'#', ..])
 }
 
-// What a line calls for, if it is no blank line and no remark. Memory can be wanting only for the tape of a scheme.
+// What a line calls for, if it is no blank line and no remark. Memory can be wanting only for the bytes of a tape and
+// for the names of a request.
 #[tactic(auto, using(crate::proofs::Saying::one_call))]
 pub fn read_line(heap: Global, line: &[u8]) -> Result<Option<Call>, ReadError>
     ensures said { Reads call_of (Says line.now) (Wanting line.now) result }

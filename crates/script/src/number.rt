@@ -1,7 +1,10 @@
 // Reads numbers that are written in decimal digits.
-ghost use Rattle.std.specs.Prelude.{◌≡◌, ◌≤◌};
+ghost use Rattle.std.specs.Prelude.{◌≡◌, ◌≤◌, ℕ, List};
+ghost use Rattle.std.specs.Option.{option_map};
 ghost use Rattle.script.specs.Finds.{Finds};
-ghost use Rattle.script.specs.Numbers.{decimal_value, Longer, Number};
+ghost use Rattle.script.specs.Numbers.{decimal_value, Leads, Longer, Number};
+
+use crate::words::first_word;
 
 fn decimal(b: u8) -> Option<u32>
     ensures { result ≡ decimal_value b }
@@ -31,4 +34,14 @@ pub(crate) fn read_number(word: &[u8], most: u32) -> Option<u32>
         number = with_digit(number, *b, most)?;
     }
     Some(number)
+}
+
+// The number that the first word of a text writes, if it is at most 255, and the text after it.
+pub(crate) fn first_number(text: &[u8]) -> Option<(u8, &[u8])>
+    ensures { Finds (λ (p : ℕ × List ℕ). Leads text.now p.0 p.1) (option_map (λ p. (p.0, p.1.now)) result) }
+{
+    let (word, rest) = first_word(text)?;
+    let number = read_number(word, 255)?;
+    // The bound keeps it; `try_from` would be a branch that gives up.
+    Some((number as u8, rest))
 }

@@ -5,7 +5,7 @@ ghost use Rattle.script.specs.Settings.{Filters, Sized};
 ghost use Rattle.script.specs.Words.{Alone};
 
 use crate::hex::read_mask;
-use crate::number::read_number;
+use crate::number::{first_number, read_number};
 use crate::words::{first_word, lone_word};
 
 // `board`, and nothing else.
@@ -31,9 +31,6 @@ pub(crate) fn list_size(rest: &[u8]) -> Option<u32>
 pub(crate) fn filter_parts(rest: &[u8]) -> Option<(u8, u16)>
     ensures { Finds (λ (p : ℕ × ℕ). Filters rest.now p.0 p.1) result }
 {
-    let (digits, more) = first_word(rest)?;
-    let attribute = read_number(digits, 255)?;
-    let mask = read_mask(lone_word(more)?)?;
-    // It is 255 at most; `try_from` would be a branch that gives up.
-    Some((attribute as u8, mask))
+    let (attribute, more) = first_number(rest)?;
+    Some((attribute, read_mask(lone_word(more)?)?))
 }

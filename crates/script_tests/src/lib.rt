@@ -17,13 +17,32 @@ mod tests {
             Ok(Some(Call::StoreBoard)) => "board",
             Ok(Some(Call::StoreList(_))) => "records",
             Ok(Some(Call::Filter { .. })) => "filter",
+            Ok(Some(Call::Open(_))) => "open",
+            Ok(Some(Call::Request { .. })) => "request",
+            Ok(Some(Call::Rule { .. })) => "rule",
+            Ok(Some(Call::State)) => "state",
             Err(ReadError::Unreadable) => "unreadable",
             Err(ReadError::OutOfMemory(_)) => "out of memory",
         }
     }
 
     fn is_scheme(heap: Global, line: &[u8], tape: &[u8]) -> bool {
-        matches!(read_line(heap, line), Ok(Some(Call::Scheme(bytes))) if bytes.as_slice() == tape)
+        let call = read_line(heap, line);
+        matches!(&call, Ok(Some(Call::Scheme(bytes))) if bytes.as_slice() == tape)
+    }
+
+    fn is_opening(heap: Global, line: &[u8], tape: &[u8]) -> bool {
+        let call = read_line(heap, line);
+        matches!(&call, Ok(Some(Call::Open(bytes))) if bytes.as_slice() == tape)
+    }
+
+    fn is_request(heap: Global, line: &[u8], number: u8, entries: &[u8]) -> bool {
+        let call = read_line(heap, line);
+        matches!(&call, Ok(Some(Call::Request { command, names })) if *command == number && names.as_slice() == entries)
+    }
+
+    fn is_rule(heap: Global, line: &[u8], question: (u8, u8, u8)) -> bool {
+        matches!(read_line(heap, line), Ok(Some(Call::Rule { row, column, right })) if (row, column, right) == question)
     }
 
     fn is_list_of(heap: Global, line: &[u8], size: u32) -> bool {
@@ -53,8 +72,9 @@ mod tests {
     }
 
     #[test]
-    fn lists(rt: HostRuntime) -> Result<(), Fail> {
-        all_are(&rt, rt.alloc(), "list", &["list", "\t list \r"])
+    fn lists_and_states(rt: HostRuntime) -> Result<(), Fail> {
+        all_are(&rt, rt.alloc(), "list", &["list", "\t list \r"])?;
+        all_are(&rt, rt.alloc(), "state", &["state", "\t state \r"])
     }
 
     #[test]
@@ -67,12 +87,57 @@ mod tests {
     }
 
     #[test]
+    fn openings(rt: HostRuntime) -> Result<(), Fail> {
+        let heap = rt.alloc();
+        assert!(rt; is_opening(heap, b"open", &[]));
+        assert!(rt; is_opening(heap, b"\topen 4001 0b FF \r", &[64, 1, 11, 255]));
+        Ok(())
+    }
+
+    #[test]
+    fn requests(rt: HostRuntime) -> Result<(), Fail> {
+        let heap = rt.alloc();
+        assert!(rt; is_request(heap, b"request 0", 0, &[]));
+        assert!(rt; is_request(heap, b"request 007 1 2", 7, &[1, 2]));
+        assert!(rt;
+            is_request(
+                heap,
+                b"\trequest\t255 \t 0255 64 0 64\r",
+                255,
+                &[255, 64, 0, 64]
+            )
+        );
+        Ok(())
+    }
+
+    #[test]
+    fn rules(rt: HostRuntime) -> Result<(), Fail> {
+        let heap = rt.alloc();
+        assert!(rt; is_rule(heap, b"rule 1 2 3", (1, 2, 3)));
+        assert!(rt; is_rule(heap, b" rule\t255 000 \t 0016\r", (255, 0, 16)));
+        Ok(())
+    }
+
+    #[test]
     fn words_that_cannot_be_read(rt: HostRuntime) -> Result<(), Fail> {
         all_are(
             &rt,
             rt.alloc(),
             "unreadable",
-            &["list 1", "list#", "list\n", "LIST", "Scheme 10", "scheme10"],
+            &[
+                "list 1",
+                "list#",
+                "list\n",
+                "LIST",
+                "Scheme 10",
+                "scheme10",
+                "state x",
+                "state 0",
+                "State",
+                "states",
+                "open10",
+                "Open 10",
+            ],
         )
     }
 
@@ -88,6 +153,9 @@ mod tests {
                 "scheme 101",
                 "scheme 1g",
                 "scheme 10 # ten",
+                "open 4",
+                "open 4 0",
+                "open 40 x",
             ],
         )
     }
@@ -151,6 +219,50 @@ mod tests {
                 "filter 0 FFFFF",
                 "filter 0 FFFG",
                 "filter 0 FFFF 0",
+            ],
+        )
+    }
+
+    #[test]
+    fn requests_that_cannot_be_read(rt: HostRuntime) -> Result<(), Fail> {
+        all_are(
+            &rt,
+            rt.alloc(),
+            "unreadable",
+            &[
+                "request",
+                "request x",
+                "request 256",
+                "request -1",
+                "request 0 x",
+                "request 0 1 256",
+                "request 0 1 2x",
+                "request 0 1, 2",
+                "request 0 # 1",
+                "request0 1",
+                "Request 0",
+            ],
+        )
+    }
+
+    #[test]
+    fn rules_that_cannot_be_read(rt: HostRuntime) -> Result<(), Fail> {
+        all_are(
+            &rt,
+            rt.alloc(),
+            "unreadable",
+            &[
+                "rule",
+                "rule 1",
+                "rule 1 2",
+                "rule 1 2 3 4",
+                "rule 1 2 x",
+                "rule x 2 3",
+                "rule 256 2 3",
+                "rule 1 256 3",
+                "rule 1 2 256",
+                "rule1 2 3",
+                "RULE 1 2 3",
             ],
         )
     }
