@@ -1,8 +1,9 @@
 -- How a line is answered.
-use Rattle.std.proofs.Common.{ℕ, List, Some}
+use Rattle.std.proofs.Common.{ℕ, List, Some, Result, Ok, Err, MatchResult}
 use Rattle.script.specs.Calls.{Call, Says}
-use Rattle.kiosk.specs.Sessions.{State, Said, Answered, LineAnswered}
+use Rattle.kiosk.specs.Sessions.{Kiosk, Said, Answered, CallWants, LineAnswered, LineWants, to_answer}
 
--- a line that says a call is answered as the call
-pub line_answered : {before : State} {line : List ℕ} {call : Call} {answer : Said} {after : State} → Says line call → Answered before (Some call) answer after → LineAnswered before line answer after
-line_answered {call = call} says answered = record { call = Some call; says = says; answered = answered }
+-- a line that says a call is answered as the call, and wants the memory that the call does
+pub line_answered : {X E : Type 0} {line : List ℕ} {call : Call} (before : Kiosk) (answer : X → Said) (after : X → Kiosk) → Says line call → (r : Result X E) → MatchResult r (λ x. Answered before (Some call) (answer x) (after x)) (λ e. CallWants before call) → MatchResult r (λ x. LineAnswered before line (answer x) (after x)) (λ e. LineWants before line)
+line_answered {call = call} before answer after says (Ok x) answered = record { call = Some call; says = says; answered = answered }
+line_answered {call = call} before answer after says (Err e) wants = to_answer says wants

@@ -1,27 +1,41 @@
 -- What a session answers to each call, and what it keeps.
-use Rattle.std.specs.Prelude.{◌≡◌, ℕ, List, length, Some, None, Option, Result, Ok, Err}
-use Rattle.std.specs.Option.{option_map}
+use Rattle.std.specs.Prelude.{◌≡◌, ℕ, Bool, List, length, Some, None, Option, Result, Ok, Err}
 use Rattle.model.specs.Answers as Answers
-use Rattle.model.specs.Counts.{counts_by}
 use Rattle.model.specs.Faults.{layer_number, reason_number}
-use Rattle.model.specs.declared.counts.Counts.{Counts}
+use Rattle.register.specs.Reads.{ruled}
+use Rattle.register.specs.Openings.{Opens}
+use Rattle.register.specs.Requests.{Requested}
+use Rattle.register.specs.States.{State, Kept, empty_state}
 use Rattle.rulings.specs.Attributes.{if_attribute}
 use Rattle.scheme.specs.Commands.{Command}
-use Rattle.scheme.specs.Views.{commands_of}
 use Rattle.scheme_tape.specs.Reading.{SchemeRead}
-use Rattle.script.specs.Calls.{Call, nothing, scheme, list, board, records, filter, Says}
+use Rattle.script.specs.Calls.{Call, nothing, scheme, list, board, records, filter, «open», request, rule, state, Says, Wanting}
 use Rattle.script.specs.Finds.{Finds}
+use Rattle.model.specs.Kiosk.{kiosk_counts}
+use Rattle.setups.specs.Making.{kiosk_kept, WantsRecords}
+use Rattle.setups.specs.Setups.{plain_setup, with_store, with_list, with_filter}
+use Rattle.setups.specs.declared.setup.Setup.{Setup}
+use Rattle.setups.specs.declared.setup.StoreChoice.{StoreChoice}
+use Rattle.setups.specs.declared.setup.StoreChoice.TheVariants.{Board, List as Records}
 use Rattle.stores.specs.RecordLists.{if_list}
-use Rattle.kiosk.specs.declared.accepted.AcceptedScheme.{AcceptedScheme}
 use Rattle.kiosk.specs.declared.answer.Reply.{Reply}
-use Rattle.kiosk.specs.declared.answer.Reply.TheVariants.{Accepted, Listing, StoreChosen, FilterChosen as Filtering}
+use Rattle.kiosk.specs.declared.answer.Reply.TheVariants.{Accepted, Listing, StoreChosen, FilterChosen as Filtering, Opened as Open, Done, Ruled, State as Showing}
 use Rattle.kiosk.specs.declared.answer.Refusal.{Refusal}
-use Rattle.kiosk.specs.declared.answer.Refusal.TheVariants.{Fault, NoScheme, BadLine}
+use Rattle.kiosk.specs.declared.answer.Refusal.TheVariants.{Fault, NoRegister, BadLine}
+use Rattle.kiosk.specs.Desks.{Made, made_of}
 use Rattle.kiosk.specs.declared.session.Session.{Session}
-use Rattle.kiosk.specs.declared.setup.Setup.{Setup}
-use Rattle.kiosk.specs.declared.setup.StoreChoice.{StoreChoice}
-use Rattle.kiosk.specs.declared.setup.StoreChoice.TheVariants.{Board, List as Records}
-use Rattle.kiosk.specs.Setups.{plain_setup, with_store, with_list, with_filter}
+
+-- What is chosen for the next register; and the register of the scheme that was accepted last, if any was.
+pub record Kiosk : Type 0 where
+  pub chosen : Setup
+  pub made : Option Made
+
+-- a board and no filters are chosen, and no scheme was accepted
+abbrev pub fresh : Kiosk
+fresh = record { chosen = plain_setup; made = None }
+
+abbrev pub kiosk_of : Session → Kiosk
+kiosk_of s = record { chosen = s.chosen; made = made_of s.desk }
 
 -- What is said of a call.
 pub data Said : Type 0 where
@@ -36,85 +50,120 @@ pub data Said : Type 0 where
   store : StoreChoice → Said
   -- the next register filters these rights by that attribute
   filtered : (attribute mask : ℕ) → Said
-  no_scheme : Said
+  -- the register is opened
+  opened : Said
+  -- the request is done, and so many have been accepted since the opening
+  done : (count : ℕ) → Said
+  -- the ruling's answer
+  ruling : Bool → Said
+  -- what the register holds
+  holds : State → Said
+  no_register : Said
   bad_line : Said
 
-abbrev pub said : Option (Result Reply Refusal) → Said
-said None = silence
-said (Some (Ok (Accepted n))) = ok n
-said (Some (Ok (Listing s))) = listing (commands_of s.scheme) s.setup
-said (Some (Ok (StoreChosen choice))) = store choice
-said (Some (Ok (Filtering k m))) = filtered k m
-said (Some (Err (Fault f))) = fault (layer_number f.layer) (reason_number f.reason) f.place
-said (Some (Err NoScheme)) = no_scheme
-said (Some (Err BadLine)) = bad_line
+-- what is said where there is a register, of it; else that there is none
+abbrev pub said_of : (Made → Said) → Option Made → Said
+said_of say None = no_register
+said_of say (Some m) = say m
 
--- What is chosen for the next register; and the commands of the scheme that was accepted last, if any was, with what
--- was chosen for it.
-pub record State : Type 0 where
-  pub chosen : Setup
-  pub accepted : Option (List Command × Setup)
+-- the listing of the register's scheme, with what was chosen for it
+abbrev pub listed : Kiosk → Said
+listed k = said_of (λ m. listing m.kept.commands m.setup) k.made
 
--- a board and no filters are chosen, and no scheme was accepted
-abbrev pub fresh : State
-fresh = record { chosen = plain_setup; accepted = None }
+-- what the register holds
+abbrev pub shown : Kiosk → Said
+shown k = said_of (λ m. holds m.state) k.made
 
-abbrev pub accepted_of : AcceptedScheme → List Command × Setup
-accepted_of s = (commands_of s.scheme, s.setup)
+-- what the register's ruling answers
+abbrev pub ruling_of : Kiosk → (row column right : ℕ) → Said
+ruling_of k s o r = said_of (λ m. ruling (ruled m.kept.says m.state.protection s o r)) k.made
 
-abbrev pub state_of : Session → State
-state_of s = record { chosen = s.chosen; accepted = option_map accepted_of s.accepted }
-
--- Attributes 0 and 3 are ladders of eight values, 1 and 2 are labels, of which there are sixteen.
-abbrev pub kiosk_counts : Counts
-kiosk_counts = counts_by 8 16 16 8
+-- What an answer says, beside the session in which it is given.
+abbrev pub said : Kiosk → Option (Result Reply Refusal) → Said
+said k None = silence
+said k (Some (Ok (Accepted n))) = ok n
+said k (Some (Ok Listing)) = listed k
+said k (Some (Ok (StoreChosen choice))) = store choice
+said k (Some (Ok (Filtering n m))) = filtered n m
+said k (Some (Ok Open)) = opened
+said k (Some (Ok (Done n))) = done n
+said k (Some (Ok (Ruled allowed))) = ruling allowed
+said k (Some (Ok Showing)) = shown k
+said k (Some (Err (Fault f))) = fault (layer_number f.layer) (reason_number f.reason) f.place
+said k (Some (Err NoRegister)) = no_register
+said k (Some (Err BadLine)) = bad_line
 
 -- A call is answered by what there is to say of what it hands out, or by its refusal.
 abbrev pub told : {X : Type 0} → (X → Said) → Answers.Answer X → Said
 told say (Answers.accepted x) = say x
 told say (Answers.refused layer number place) = fault layer number place
 
--- What a reading leaves: an accepted scheme, with what is chosen, takes the place of the old; a refused one does not.
+-- The register that an accepted scheme makes with what is chosen: it has no entries, empty cells and the count 0.
+abbrev pub made_with : Setup → List Command → Made
+made_with setup commands = record { kept = kiosk_kept commands setup; state = empty_state; setup = setup }
+
+-- What a reading leaves: the register of an accepted scheme takes the place of the one that was there; a refused one does not.
 -- What is chosen stays.
-abbrev pub left : Answers.Answer (List Command) → State → State
-left (Answers.accepted commands) before = record { chosen = before.chosen; accepted = Some (commands, before.chosen) }
+abbrev pub left : Answers.Answer (List Command) → Kiosk → Kiosk
+left (Answers.accepted commands) before = record { chosen = before.chosen; made = Some (made_with before.chosen commands) }
 left (Answers.refused layer number place) before = before
 
 -- A tape is answered by its reading.
-pub record Taken (before : State) (tape : List ℕ) (answer : Said) (after : State) : Type 0 where
+pub record Taken (before : Kiosk) (tape : List ℕ) (answer : Said) (after : Kiosk) : Type 0 where
   pub reading : Answers.Answer (List Command)
   pub read : SchemeRead kiosk_counts tape reading
   pub tells : answer ≡ told (λ commands. ok (length commands)) reading
   pub leaves : after ≡ left reading before
 
+-- The tape is that of a scheme which is accepted, and a list is chosen for its register.
+pub record WantsList (before : Kiosk) (tape : List ℕ) : Type 0 where
+  pub commands : List Command
+  pub read : SchemeRead kiosk_counts tape (Answers.accepted commands)
+  pub list_chosen : WantsRecords before.chosen.store
+
 -- the same session with another setup chosen for the next register
-abbrev pub choosing : State → Setup → State
-choosing s setup = record { chosen = setup; accepted = s.accepted }
+abbrev pub choosing : Kiosk → Setup → Kiosk
+choosing k setup = record { chosen = setup; made = k.made }
 
 -- A board can always be chosen.
-abbrev pub BoardChosen : State → Said → State → Type 0
+abbrev pub BoardChosen : Kiosk → Said → Kiosk → Type 0
 BoardChosen before answer after = (answer ≡ store Board) × (after ≡ choosing before (with_store before.chosen Board))
 
 -- A list of 1 to 4,096 records is chosen; another is refused, and nothing changes.
-abbrev pub ListChosen : State → (records : ℕ) → Said → State → Type 0
+abbrev pub ListChosen : Kiosk → (records : ℕ) → Said → Kiosk → Type 0
 ListChosen before n answer after =
     (answer ≡ told store (if_list n (Records n))) × (after ≡ choosing before (with_list before.chosen n))
 
 -- A filter by attribute 0 to 3 is chosen; another is refused, and nothing changes.
-abbrev pub FilterChosen : State → (attribute mask : ℕ) → Said → State → Type 0
+abbrev pub FilterChosen : Kiosk → (attribute mask : ℕ) → Said → Kiosk → Type 0
 FilterChosen before k m answer after =
     (answer ≡ told (filtered k) (if_attribute k m)) × (after ≡ choosing before (with_filter before.chosen k m))
 
--- the listing of the scheme that was accepted last, with what was chosen for it; or that there is none
-abbrev pub listed_of : Option (List Command × Setup) → Said
-listed_of None = no_scheme
-listed_of (Some s) = listing s.0 s.1
+-- the same register in another state
+abbrev pub in_state : Made → State → Made
+in_state m s = record { kept = m.kept; state = s; setup = m.setup }
 
-abbrev pub listed : State → Said
-listed s = listed_of s.accepted
+-- The register carries a call out: its answer is told, and the state that it leaves is the register's. All else stays.
+pub record Carried {X : Type 0} (does : Kept → State → Answers.Answer X → State → Type 0) (say : X → Said) (before : Kiosk) (m : Made) (answer : Said) (after : Kiosk) : Type 0 where
+  pub carried : Answers.Answer X
+  pub leaves : State
+  pub call : does m.kept m.state carried leaves
+  pub tells : answer ≡ told say carried
+  pub stays : after ≡ record { chosen = before.chosen; made = Some (in_state m leaves) }
+
+-- If there is a register, it carries the call out; else nothing changes.
+abbrev pub Carries : {X : Type 0} → (does : Kept → State → Answers.Answer X → State → Type 0) → (say : X → Said) → Kiosk → Option Made → Said → Kiosk → Type 0
+Carries does say before None answer after = (answer ≡ no_register) × (after ≡ before)
+Carries does say before (Some m) answer after = Carried does say before m answer after
+
+abbrev pub Opened : Kiosk → (tape : List ℕ) → Said → Kiosk → Type 0
+Opened before tape answer after = Carries (λ kept old. Opens kept tape) (λ tt. opened) before before.made answer after
+
+abbrev pub Asked : Kiosk → (command : ℕ) → (names : List ℕ) → Said → Kiosk → Type 0
+Asked before c names answer after = Carries (λ kept old. Requested kept old c names) done before before.made answer after
 
 -- What each call is answered. No call is what an unreadable line has.
-abbrev pub Answered : State → Option Call → Said → State → Type 0
+abbrev pub Answered : Kiosk → Option Call → Said → Kiosk → Type 0
 Answered before None answer after = (answer ≡ bad_line) × (after ≡ before)
 Answered before (Some nothing) answer after = (answer ≡ silence) × (after ≡ before)
 Answered before (Some list) answer after = (answer ≡ listed before) × (after ≡ before)
@@ -122,9 +171,31 @@ Answered before (Some (scheme tape)) answer after = Taken before tape answer aft
 Answered before (Some board) answer after = BoardChosen before answer after
 Answered before (Some (records n)) answer after = ListChosen before n answer after
 Answered before (Some (filter k m)) answer after = FilterChosen before k m answer after
+Answered before (Some («open» tape)) answer after = Opened before tape answer after
+Answered before (Some (request c names)) answer after = Asked before c names answer after
+Answered before (Some (rule s o r)) answer after = (answer ≡ ruling_of before s o r) × (after ≡ before)
+Answered before (Some state) answer after = (answer ≡ shown before) × (after ≡ before)
 
 -- A line is answered as the call that it says, if it says one.
-pub record LineAnswered (before : State) (line : List ℕ) (answer : Said) (after : State) : Type 0 where
+pub record LineAnswered (before : Kiosk) (line : List ℕ) (answer : Said) (after : Kiosk) : Type 0 where
   pub call : Option Call
   pub says : Finds (Says line) call
   pub answered : Answered before call answer after
+
+-- Memory is wanted for what a call says: for the records of a list.
+abbrev pub CallWants : Kiosk → Call → Type 0
+CallWants before nothing = ⊥
+CallWants before list = ⊥
+CallWants before (scheme tape) = WantsList before tape
+CallWants before board = ⊥
+CallWants before (records n) = ⊥
+CallWants before (filter k m) = ⊥
+CallWants before («open» tape) = ⊥
+CallWants before (request c names) = ⊥
+CallWants before (rule s o r) = ⊥
+CallWants before state = ⊥
+
+-- Memory is wanted for a line: for the bytes that it writes, or for the call that it says.
+pub data LineWants (before : Kiosk) (line : List ℕ) : Type 0 where
+  to_read : Wanting line → LineWants before line
+  to_answer : {call : Call} → Says line call → CallWants before call → LineWants before line

@@ -2,24 +2,32 @@
 // each line.
 #![tactic(auto)]
 
-mod accepted;
 mod answer;
+mod desk;
 mod session;
-mod setup;
+mod state;
+mod told;
 
 use session::Session;
 use std::fs::File;
 use std::io::{BufRead, BufReader};
 use std::{env, io};
+use stores::board::{Board, CELLS};
+use told::Told;
 
 // A line is split off as bytes, so that one that is not text is answered like any other that can't be read.
-fn serve<R: io::Read + Drop>(rt: &HostRuntime, script: R) -> io::Result<()> {
+fn serve<R: io::Read + Drop>(rt: &HostRuntime, script: R, board: Board<'_>) -> io::Result<()> {
     let heap = rt.alloc();
-    let mut session = Session::new();
+    let mut session = Session::new(board);
     for line in BufReader::new(heap, script)?.split(heap, b'\n') {
         let line = line?;
-        match session.answer_line(heap, line.as_slice())? {
-            Some(Ok(reply)) => rt.println(reply)?,
+        let (next, answer) = session.answer_line(heap, line.as_slice())?;
+        session = next;
+        match answer {
+            Some(Ok(reply)) => rt.println(Told {
+                session: &session,
+                reply,
+            })?,
             Some(Err(refusal)) => rt.println(refusal)?,
             None => (),
         }
@@ -27,10 +35,17 @@ fn serve<R: io::Read + Drop>(rt: &HostRuntime, script: R) -> io::Result<()> {
     Ok(())
 }
 
+// The board's memory is on the heap, since a function pays for the size of what lies in it.
 fn run(rt: &HostRuntime) -> io::Result<()> {
+    let mut memory = vec![in rt.alloc(); 0; CELLS]?;
+    let board = match Board::new(memory.as_mut_slice()) {
+        Ok(board) => board,
+        // The memory is a board's.
+        Err(_) => unreachable!(),
+    };
     match env::args(rt)?.nth(1) {
-        Some(path) => serve(rt, File::open(rt, path)?),
-        None => serve(rt, rt.stdin()),
+        Some(path) => serve(rt, File::open(rt, path)?, board),
+        None => serve(rt, rt.stdin(), board),
     }
 }
 

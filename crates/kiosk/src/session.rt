@@ -1,98 +1,169 @@
 // What the kiosk keeps from line to line, and what it answers.
 ghost use Rattle.std.specs.Prelude.{◌≡◌, Some, MatchResult};
-ghost use Rattle.script.specs.Calls.{call_of, Wanting};
-ghost use Rattle.kiosk.specs.Sessions.{said, state_of, fresh, listed, Taken, BoardChosen, ListChosen, FilterChosen, Answered, LineAnswered};
+ghost use Rattle.script.specs.Calls.{call_of};
+ghost use Rattle.kiosk.specs.Sessions.{kiosk_of, said, fresh, listed, shown, ruling_of, Taken, BoardChosen, ListChosen, FilterChosen, Opened, Asked, WantsList, Answered, CallWants, LineAnswered, LineWants};
 
-use crate::accepted::AcceptedScheme;
 use crate::answer::{Answer, Refusal, Reply};
-use crate::setup::{Setup, StoreChoice};
-use model::labels::Labels;
-use model::ladder::Ladder;
-use model::mask::Mask;
+use crate::desk::Desk;
+use model::mask::{Mask, Right};
+use model::name::Name;
 use model::stamp::Attribute;
 use scheme_tape::reader::read_scheme;
 use script::{Call, ReadError, read_line};
+use setups::making::{KioskScales, make_register};
+use setups::setup::{Setup, StoreChoice};
+use setups::size::ListSize;
 use std::alloc::{AllocError, Global};
+use stores::board::Board;
 
-// What is chosen for the next register, and the scheme that was accepted last.
+// What is chosen for the next register, and the register of the scheme that was accepted last.
 #[derive(Drop)]
-pub struct Session {
-    chosen: Setup,
-    accepted: Option<AcceptedScheme>,
+pub struct Session<'a> {
+    pub(crate) chosen: Setup,
+    pub(crate) desk: Desk<'a>,
 }
 
-impl Session {
-    pub fn new() -> Session
-        ensures { state_of result ≡ fresh }
+impl<'a> Session<'a> {
+    // The board is taken for the registers to come, whatever it holds.
+    pub fn new(board: Board<'a>) -> Session<'a>
+        ensures { kiosk_of result ≡ fresh }
     {
         Session {
             chosen: Setup::plain(),
-            accepted: None,
+            desk: Desk::Bare(board),
         }
     }
 
-    // An accepted scheme becomes the session's, with what is chosen; a refused one leaves the old.
-    fn take_scheme(&mut self, tape: &[u8]) -> Answer
-        ensures { Taken (state_of self.old) tape.now (said (Some result)) (state_of self.new) }
+    // An accepted scheme makes the session's register, with what is chosen; a refused one leaves the old. Memory can be wanting
+    // only for the records of a list; then there is no session any more.
+    fn take_scheme(self, heap: Global, tape: &[u8]) -> Result<(Session<'a>, Answer), AllocError>
+        ensures { MatchResult result (λ p. Taken (kiosk_of self.entry) tape.now (said (kiosk_of p.0) (Some p.1)) (kiosk_of p.0)) (λ _. WantsList (kiosk_of self.entry) tape.now) }
     {
-        let scheme = read_scheme::<Ladder, Labels, Labels, Ladder>(tape)?;
-        self.accepted = Some(AcceptedScheme {
-            scheme,
-            setup: self.chosen,
-        });
-        Ok(Reply::Accepted(scheme.len()))
+        let scheme = match read_scheme::<KioskScales>(tape) {
+            Ok(scheme) => scheme,
+            Err(fault) => return Ok((self, Err(Refusal::Fault(fault)))),
+        };
+        let commands = scheme.commands().len();
+        let Session { chosen, desk } = self;
+        let register = make_register(heap, scheme, &chosen, desk.into_board())?;
+        let session = Session {
+            chosen,
+            desk: Desk::Made(register, chosen),
+        };
+        Ok((session, Ok(Reply::Accepted(commands))))
     }
 
     fn choose_board(&mut self) -> Answer
-        ensures { BoardChosen (state_of self.old) (said (Some result)) (state_of self.new) }
+        ensures { BoardChosen (kiosk_of self.old) (said (kiosk_of self.new) (Some result)) (kiosk_of self.new) }
     {
-        self.chosen.choose_board();
+        self.chosen.choose_store(StoreChoice::Board);
         Ok(Reply::StoreChosen(StoreChoice::Board))
     }
 
     fn choose_list(&mut self, records: usize) -> Answer
-        ensures { ListChosen (state_of self.old) records (said (Some result)) (state_of self.new) }
+        ensures { ListChosen (kiosk_of self.old) records (said (kiosk_of self.new) (Some result)) (kiosk_of self.new) }
     {
-        self.chosen.choose_list(records)?;
-        Ok(Reply::StoreChosen(StoreChoice::List(records)))
+        let choice = StoreChoice::List(ListSize::new(records)?);
+        self.chosen.choose_store(choice);
+        Ok(Reply::StoreChosen(choice))
     }
 
     fn choose_filter(&mut self, attribute: Attribute, mask: Mask) -> Answer
-        ensures { FilterChosen (state_of self.old) attribute mask (said (Some result)) (state_of self.new) }
+        ensures { FilterChosen (kiosk_of self.old) attribute mask (said (kiosk_of self.new) (Some result)) (kiosk_of self.new) }
     {
         self.chosen.choose_filter(attribute, mask)?;
         Ok(Reply::FilterChosen { attribute, mask })
     }
 
     fn list(&self) -> Answer
-        ensures { said (Some result) ≡ listed (state_of self.now) }
+        ensures { said (kiosk_of self.now) (Some result) ≡ listed (kiosk_of self.now) }
     {
-        self.accepted.map(Reply::Listing).ok_or(Refusal::NoScheme)
-    }
-
-    // Blank lines and remarks have no answer.
-    fn answer(&mut self, call: Option<Call>) -> Option<Answer>
-        ensures { Answered (state_of self.old) (Some (call_of call)) (said result) (state_of self.new) }
-    {
-        match call? {
-            Call::Scheme(tape) => Some(self.take_scheme(tape.as_slice())),
-            Call::List => Some(self.list()),
-            Call::StoreBoard => Some(self.choose_board()),
-            // A `usize` has 64 bits, so the cast keeps the number.
-            Call::StoreList(records) => Some(self.choose_list(records as usize)),
-            Call::Filter { attribute, mask } => Some(self.choose_filter(attribute, mask)),
+        match self.desk {
+            Desk::Bare(_) => Err(Refusal::NoRegister),
+            Desk::Made(_, _) => Ok(Reply::Listing),
         }
     }
 
-    // Memory can be wanting only for the tape of a scheme; then the session stays as it was.
-    #[tactic(auto, using(crate::proofs::Answering::line_answered))]
-    pub fn answer_line(&mut self, heap: Global, line: &[u8]) -> Result<Option<Answer>, AllocError>
-        ensures { MatchResult result (λ a. LineAnswered (state_of self.old) line.now (said a) (state_of self.new)) (λ _. Wanting line.now × (self.new ≡ self.old)) }
+    fn show(&self) -> Answer
+        ensures { said (kiosk_of self.now) (Some result) ≡ shown (kiosk_of self.now) }
+    {
+        match self.desk {
+            Desk::Bare(_) => Err(Refusal::NoRegister),
+            Desk::Made(_, _) => Ok(Reply::State),
+        }
+    }
+
+    fn rule(&self, row: Name, column: Name, right: Right) -> Answer
+        ensures { said (kiosk_of self.now) (Some result) ≡ ruling_of (kiosk_of self.now) row column right }
+    {
+        match &self.desk {
+            Desk::Bare(_) => Err(Refusal::NoRegister),
+            Desk::Made(register, _) => Ok(Reply::Ruled(register.allows(row, column, right))),
+        }
+    }
+
+    fn open(&mut self, tape: &[u8]) -> Answer
+        ensures { Opened (kiosk_of self.old) tape.now (said (kiosk_of self.new) (Some result)) (kiosk_of self.new) }
+    {
+        match &mut self.desk {
+            Desk::Bare(_) => Err(Refusal::NoRegister),
+            Desk::Made(register, _) => {
+                register.open(tape)?;
+                Ok(Reply::Opened)
+            }
+        }
+    }
+
+    fn request(&mut self, command: u8, names: &[Name]) -> Answer
+        ensures { Asked (kiosk_of self.old) command names.now (said (kiosk_of self.new) (Some result)) (kiosk_of self.new) }
+    {
+        match &mut self.desk {
+            Desk::Bare(_) => Err(Refusal::NoRegister),
+            Desk::Made(register, _) => Ok(Reply::Done(register.request(command, names)?)),
+        }
+    }
+
+    // Blank lines and remarks have no answer.
+    fn answer(
+        mut self,
+        heap: Global,
+        call: Option<Call>,
+    ) -> Result<(Session<'a>, Option<Answer>), AllocError>
+        ensures { MatchResult result (λ p. Answered (kiosk_of self.entry) (Some (call_of call)) (said (kiosk_of p.0) p.1) (kiosk_of p.0)) (λ _. CallWants (kiosk_of self.entry) (call_of call)) }
+    {
+        let Some(call) = call else {
+            return Ok((self, None));
+        };
+        let answer = match call {
+            Call::Scheme(tape) => {
+                let (session, answer) = self.take_scheme(heap, tape.as_slice())?;
+                return Ok((session, Some(answer)));
+            }
+            Call::List => self.list(),
+            Call::StoreBoard => self.choose_board(),
+            // A `usize` has 64 bits, so the cast keeps the number.
+            Call::StoreList(records) => self.choose_list(records as usize),
+            Call::Filter { attribute, mask } => self.choose_filter(attribute, mask),
+            Call::Open(tape) => self.open(tape.as_slice()),
+            Call::Request { command, names } => self.request(command, names.as_slice()),
+            Call::Rule { row, column, right } => self.rule(row, column, right),
+            Call::State => self.show(),
+        };
+        Ok((self, Some(answer)))
+    }
+
+    // Memory can be wanting for what a line writes, or for the records of a list. Then there is no session any more.
+    pub fn answer_line(
+        self,
+        heap: Global,
+        line: &[u8],
+    ) -> Result<(Session<'a>, Option<Answer>), AllocError>
+        ensures { MatchResult result (λ p. LineAnswered (kiosk_of self.entry) line.now (said (kiosk_of p.0) p.1) (kiosk_of p.0)) (λ _. LineWants (kiosk_of self.entry) line.now) }
     {
         // An error goes two ways, so no `From` turns it over.
         match read_line(heap, line) {
-            Ok(call) => Ok(self.answer(call)),
-            Err(ReadError::Unreadable) => Ok(Some(Err(Refusal::BadLine))),
+            Ok(call) => self.answer(heap, call),
+            Err(ReadError::Unreadable) => Ok((self, Some(Err(Refusal::BadLine)))),
             Err(ReadError::OutOfMemory(cause)) => Err(cause),
         }
     }

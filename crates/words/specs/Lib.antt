@@ -1,4 +1,7 @@
+pub mod Lines
+pub mod Listings
 pub mod Masks
 pub mod Roles
 pub mod Sentences
+pub mod States
 pub mod Words

@@ -1,0 +1,3 @@
+pub mod Making
+pub mod Setups
+pub mod Stores
