@@ -1,0 +1,396 @@
+//! Puts scripts to a program, and finds the first line that it answers otherwise than the engine.
+
+use std::env;
+use std::ffi::OsStr;
+use std::fmt;
+use std::fs;
+use std::io::{self, Read, Write};
+use std::path::{Path, PathBuf};
+use std::process::{self, Child, ChildStdout, Command, ExitStatus, Stdio};
+use std::sync::mpsc::{self, RecvTimeoutError};
+use std::thread;
+use std::time::{Duration, Instant};
+
+use crate::generator::{self, Manner};
+use crate::session::{self, Answer, Answered};
+use crate::worked::{self, Worked};
+
+/// How long a program may take for one script.
+const PATIENCE: Duration = Duration::from_secs(20);
+
+/// How a program is given a script.
+#[derive(Clone, Copy, Debug, PartialEq, Eq)]
+pub enum Feed {
+    File,
+    Input,
+}
+
+impl Feed {
+    /// One way for half of the seeds and the other way for the rest.
+    fn of_seed(seed: u64) -> Self {
+        if (seed / 5).is_multiple_of(2) {
+            Feed::File
+        } else {
+            Feed::Input
+        }
+    }
+}
+
+impl fmt::Display for Feed {
+    fn fmt(&self, f: &mut fmt::Formatter<'_>) -> fmt::Result {
+        f.write_str(match self {
+            Feed::File => "from a file",
+            Feed::Input => "from standard input",
+        })
+    }
+}
+
+/// A line that is answered otherwise.
+#[derive(Clone, Debug, PartialEq, Eq)]
+pub struct Difference {
+    /// The line by its number from 1 and its text, or none where the program goes on after the last answer.
+    pub line: Option<(usize, String)>,
+    /// What it should be answered here, or nothing more.
+    pub wanted: Option<String>,
+    /// What the program answered here, if it did.
+    pub given: Option<String>,
+}
+
+impl Difference {
+    fn at(answered: &Answered<'_>, wanted: &str, given: Option<String>) -> Self {
+        let line = (
+            answered.number,
+            String::from_utf8_lossy(answered.line).into_owned(),
+        );
+        Difference {
+            line: Some(line),
+            wanted: Some(wanted.to_owned()),
+            given,
+        }
+    }
+}
+
+impl fmt::Display for Difference {
+    fn fmt(&self, f: &mut fmt::Formatter<'_>) -> fmt::Result {
+        match &self.line {
+            Some((number, text)) => writeln!(f, "line {number} is answered otherwise: {text}")?,
+            None => writeln!(f, "the program says more than the script asks")?,
+        }
+        writeln!(
+            f,
+            "  wanted:  {}",
+            self.wanted.as_deref().unwrap_or("(no more answers)")
+        )?;
+        write!(
+            f,
+            "  program: {}",
+            self.given.as_deref().unwrap_or("(no more answers)")
+        )
+    }
+}
+
+/// Why a program did not answer a script.
+#[derive(Debug)]
+pub enum Failure {
+    Start(io::Error),
+    Talk(io::Error),
+    /// It took longer than it may.
+    Late,
+    Ended(ExitStatus),
+    Differs(Box<Difference>),
+    /// Not the program, but the engine itself answers a worked script otherwise than expected.
+    Unexpected(Box<Difference>),
+}
+
+impl fmt::Display for Failure {
+    fn fmt(&self, f: &mut fmt::Formatter<'_>) -> fmt::Result {
+        match self {
+            Failure::Start(error) => write!(f, "the program can't be run: {error}"),
+            Failure::Talk(error) => write!(f, "the program can't be talked with: {error}"),
+            Failure::Late => write!(
+                f,
+                "the program had not ended after {} seconds",
+                PATIENCE.as_secs()
+            ),
+            Failure::Ended(status) => write!(f, "the program did not end well: {status}"),
+            Failure::Differs(difference) => write!(f, "{difference}"),
+            Failure::Unexpected(difference) => {
+                write!(f, "the engine is wrong; in what follows its answers are wanted, and the expected ones given: {difference}")
+            }
+        }
+    }
+}
+
+impl std::error::Error for Failure {}
+
+/// A program that answers scripts, and the file in which it is given them.
+#[derive(Debug)]
+pub struct Program {
+    path: PathBuf,
+    file: PathBuf,
+}
+
+impl Program {
+    pub fn new(path: &Path) -> Self {
+        let file = env::temp_dir().join(format!("kiosk-compare-{}.script", process::id()));
+        Program {
+            path: path.to_owned(),
+            file,
+        }
+    }
+
+    /// What the program prints for this script.
+    pub fn output(&self, script: &[u8], feed: Feed) -> Result<Vec<u8>, Failure> {
+        let mut child = match feed {
+            Feed::File => {
+                fs::write(&self.file, script).map_err(Failure::Talk)?;
+                self.start(Some(self.file.as_os_str()))?
+            }
+            Feed::Input => self.start(None)?,
+        };
+        write_input(&mut child, feed, script);
+        let printed = match child.stdout.take() {
+            Some(stdout) => read_output(stdout),
+            None => Ok(Vec::new()),
+        };
+        if printed.is_err() {
+            // It may have ended by itself meanwhile, and what matters is why nothing was read.
+            let _ = child.kill();
+        }
+        let status = child.wait().map_err(Failure::Talk)?;
+        let printed = printed?;
+        if status.success() {
+            Ok(printed)
+        } else {
+            Err(Failure::Ended(status))
+        }
+    }
+
+    fn start(&self, argument: Option<&OsStr>) -> Result<Child, Failure> {
+        let mut command = Command::new(&self.path);
+        command
+            .args(argument)
+            .stdin(Stdio::piped())
+            .stdout(Stdio::piped());
+        command.spawn().map_err(Failure::Start)
+    }
+
+    /// Whether the program answers this script as the engine does.
+    pub fn check(&self, script: &[u8], feed: Feed) -> Result<(), Failure> {
+        let output = self.output(script, feed)?;
+        first_difference(script, &output).map_or(Ok(()), |difference| {
+            Err(Failure::Differs(Box::new(difference)))
+        })
+    }
+}
+
+impl Drop for Program {
+    fn drop(&mut self) {
+        // There is none where no script was given by a file.
+        let _ = fs::remove_file(&self.file);
+    }
+}
+
+/// Writes the script to the program's standard input, where it is to come from there, and closes that.
+///
+/// A thread of its own does it: a program that prints while it reads would else wait for a reader for ever.
+fn write_input(child: &mut Child, feed: Feed, script: &[u8]) {
+    let stdin = child.stdin.take();
+    if let (Some(mut stdin), Feed::Input) = (stdin, feed) {
+        let script = script.to_vec();
+        // A program that ends before it has read all shows in what it prints.
+        thread::spawn(move || drop(stdin.write_all(&script)));
+    }
+}
+
+/// Reads what the program prints, as long as it may take.
+fn read_output(mut stdout: ChildStdout) -> Result<Vec<u8>, Failure> {
+    let (sender, receiver) = mpsc::channel();
+    thread::spawn(move || {
+        let mut printed = Vec::new();
+        let read = stdout.read_to_end(&mut printed).map(|_| printed);
+        // Nobody listens any more where the time has passed.
+        let _ = sender.send(read);
+    });
+    match receiver.recv_timeout(PATIENCE) {
+        Ok(read) => read.map_err(Failure::Talk),
+        Err(RecvTimeoutError::Timeout | RecvTimeoutError::Disconnected) => Err(Failure::Late),
+    }
+}
+
+/// The lines that a program printed, each up to the words for people.
+struct Printed {
+    lines: std::vec::IntoIter<String>,
+}
+
+impl Printed {
+    fn new(output: &[u8]) -> Self {
+        let output = String::from_utf8_lossy(output);
+        let output = output.strip_suffix('\n').unwrap_or(&output);
+        let lines: Vec<String> = output
+            .split('\n')
+            .map(|line| compared(line).to_owned())
+            .collect();
+        let lines = if output.is_empty() { Vec::new() } else { lines };
+        Printed {
+            lines: lines.into_iter(),
+        }
+    }
+
+    /// The last line of a listing, which is the next line itself where that is no listing's first.
+    fn end_of_listing(&mut self) -> Option<String> {
+        let first = self.lines.next()?;
+        if first == "end" || first.starts_with("error") || first.starts_with("fault") {
+            return Some(first);
+        }
+        self.lines.find(|line| line == "end")
+    }
+}
+
+/// The part of an answer that is compared.
+fn compared(line: &str) -> &str {
+    line.split_once(" -- ").map_or(line, |(answer, _)| answer)
+}
+
+/// Where the output answers the script otherwise than the engine, if it does.
+pub fn first_difference(script: &[u8], output: &[u8]) -> Option<Difference> {
+    let mut printed = Printed::new(output);
+    for answered in session::answers(script) {
+        let answer = answered.answer.to_string();
+        for wanted in answer.split('\n') {
+            let given = match answered.answer {
+                Answer::Listed => printed.end_of_listing(),
+                _ => printed.lines.next(),
+            };
+            if given.as_deref() != Some(wanted) {
+                return Some(Difference::at(&answered, wanted, given));
+            }
+        }
+    }
+    let more = printed.lines.next()?;
+    Some(Difference {
+        line: None,
+        wanted: None,
+        given: Some(more),
+    })
+}
+
+/// A script on which the comparison failed, and why.
+#[derive(Debug)]
+pub struct Report {
+    what: String,
+    script: Vec<u8>,
+    failure: Failure,
+}
+
+impl Report {
+    /// Writes the failure and the whole script.
+    pub fn write(&self, out: &mut impl Write) -> io::Result<()> {
+        writeln!(out, "{}: {}", self.what, self.failure)?;
+        writeln!(out, "the whole script:")?;
+        out.write_all(&self.script)?;
+        if !self.script.ends_with(b"\n") {
+            writeln!(out)?;
+        }
+        Ok(())
+    }
+}
+
+/// Puts the worked scripts to the program, and says how many there are.
+pub fn check_worked(program: &Program) -> Result<usize, Report> {
+    for worked in worked::TABLE {
+        for feed in [Feed::File, Feed::Input] {
+            check_expected(program, &worked, feed).map_err(|failure| Report {
+                what: format!("the worked script {}, {feed}", worked.name),
+                script: worked.script.to_vec(),
+                failure,
+            })?;
+        }
+    }
+    Ok(worked::TABLE.len())
+}
+
+/// Whether the program answers a worked script as expected. The engine has to do so too: then the program does where
+/// both answer alike.
+fn check_expected(program: &Program, worked: &Worked, feed: Feed) -> Result<(), Failure> {
+    if let Some(difference) = first_difference(worked.script, worked.expected.as_bytes()) {
+        return Err(Failure::Unexpected(Box::new(difference)));
+    }
+    program.check(worked.script, feed)
+}
+
+/// Puts the scripts of the seeds from `first` on to the program for so long, and says how many it answered.
+pub fn check_seeds(program: &Program, first: u64, time: Duration) -> Result<u64, Report> {
+    let end = Instant::now() + time;
+    let mut seed = first;
+    while Instant::now() < end {
+        let (manner, feed) = (Manner::of_seed(seed), Feed::of_seed(seed));
+        let script = generator::script(seed, manner);
+        if let Err(failure) = program.check(&script, feed) {
+            let what = format!("the {manner} script of seed {seed}, {feed}");
+            return Err(Report {
+                what,
+                script,
+                failure,
+            });
+        }
+        seed = seed.wrapping_add(1);
+    }
+    Ok(seed.wrapping_sub(first))
+}
+
+#[cfg(test)]
+mod tests {
+    use super::*;
+
+    const SCRIPT: &[u8] = b"state\nscheme\nlist\n# a remark\nstate\nrequest 0";
+
+    fn difference(output: &str) -> Option<(Option<usize>, Option<String>)> {
+        let found = first_difference(SCRIPT, output.as_bytes())?;
+        Some((found.line.map(|(number, _)| number), found.given))
+    }
+
+    #[test]
+    fn words_for_people_and_listings_are_passed_over() {
+        let output = "error no register -- make one\nok -- 0 commands\nstore board\nend\ncount 0\nend\nfault 5 9 0\n";
+        assert_eq!(difference(output), None);
+    }
+
+    #[test]
+    fn the_first_difference_is_found() {
+        let wrong = "error no register\nok\nend\ncount 1\nend\nfault 5 9 1\n";
+        assert_eq!(
+            difference(wrong),
+            Some((Some(5), Some("count 1".to_owned())))
+        );
+        let no_listing = "error no register\nok\nerror no register\ncount 0\nend\nfault 5 9 0\n";
+        assert_eq!(
+            difference(no_listing),
+            Some((Some(3), Some("error no register".to_owned())))
+        );
+    }
+
+    #[test]
+    fn too_little_and_too_much_are_found() {
+        assert_eq!(difference(""), Some((Some(1), None)));
+        assert_eq!(
+            difference("error no register\nok\nstore board\n"),
+            Some((Some(3), None))
+        );
+        assert_eq!(
+            difference("error no register\nok\nend\ncount 0\nend\n"),
+            Some((Some(6), None))
+        );
+        let more = "error no register\nok\nend\ncount 0\nend\nfault 5 9 0\nok\n";
+        assert_eq!(difference(more), Some((None, Some("ok".to_owned()))));
+    }
+
+    #[test]
+    fn a_program_that_is_none_fails() {
+        let program = Program::new(Path::new("./no such program"));
+        assert!(matches!(
+            program.check(SCRIPT, Feed::Input),
+            Err(Failure::Start(_))
+        ));
+    }
+}

@@ -1,0 +1,117 @@
+//! How often each answer came up.
+
+use std::collections::BTreeMap;
+use std::fmt;
+
+use crate::generator::{self, Manner};
+use crate::session::{self, Answer, Answered};
+
+/// Every answer that scripts of many seeds should come to, as [`Statistics`] words them.
+pub const WANTED: [&str; 32] = [
+    "error bad line",
+    "error no register",
+    "fault 1 1",
+    "fault 1 2",
+    "fault 1 3",
+    "fault 1 4",
+    "fault 1 5",
+    "fault 1 6",
+    "fault 2 1",
+    "fault 2 2",
+    "fault 2 5",
+    "fault 2 7",
+    "fault 2 8",
+    "fault 5 9",
+    "fault 5 10",
+    "fault 5 11",
+    "fault 5 12",
+    "fault 5 13",
+    "fault 5 14",
+    "fault 5 15",
+    "fault 5 16",
+    "fault 7 23",
+    "fault 7 24",
+    "filter: ok",
+    "list: end",
+    "open: ok",
+    "request: ok",
+    "rule: ok no",
+    "rule: ok yes",
+    "scheme: ok",
+    "state: end",
+    "store: ok",
+];
+
+#[derive(Clone, Debug, Default)]
+pub struct Statistics {
+    scripts: u64,
+    counts: BTreeMap<String, u64>,
+}
+
+impl Statistics {
+    /// What the scripts of these seeds come to, each in its own manner.
+    pub fn of_seeds(seeds: impl Iterator<Item = u64>) -> Self {
+        let mut statistics = Self::default();
+        for seed in seeds {
+            statistics.add_script(&generator::script(seed, Manner::of_seed(seed)));
+        }
+        statistics
+    }
+
+    fn add_script(&mut self, script: &[u8]) {
+        self.scripts += 1;
+        for answered in session::answers(script) {
+            *self.counts.entry(label(&answered)).or_default() += 1;
+        }
+    }
+
+    /// Those of the wanted answers that have not come up.
+    pub fn missing(&self) -> Vec<&'static str> {
+        WANTED
+            .into_iter()
+            .filter(|&wanted| !self.counts.contains_key(wanted))
+            .collect()
+    }
+}
+
+/// What kind of answer it is: a refusal without its place, and else the line's keyword with the answer's last line.
+fn label(answered: &Answered<'_>) -> String {
+    let keyword = answered
+        .line
+        .split(|byte| !byte.is_ascii_lowercase())
+        .find(|word| !word.is_empty());
+    let keyword = String::from_utf8_lossy(keyword.unwrap_or_default());
+    match &answered.answer {
+        Answer::Refused(fault) => format!("fault {} {}", fault.layer as u8, fault.rule as u8),
+        Answer::NoRegister | Answer::BadLine => answered.answer.to_string(),
+        Answer::Counted(_) => format!("{keyword}: ok"),
+        Answer::Held(_) => format!("{keyword}: end"),
+        Answer::Done | Answer::Ruled(_) | Answer::Listed => {
+            format!("{keyword}: {}", answered.answer)
+        }
+    }
+}
+
+impl fmt::Display for Statistics {
+    fn fmt(&self, f: &mut fmt::Formatter<'_>) -> fmt::Result {
+        writeln!(f, "{} scripts", self.scripts)?;
+        for (label, count) in &self.counts {
+            writeln!(f, "{count:>9}  {label}")?;
+        }
+        for label in self.missing() {
+            writeln!(f, "{:>9}  {label}", "NONE")?;
+        }
+        Ok(())
+    }
+}
+
+#[cfg(test)]
+mod tests {
+    use super::*;
+
+    #[test]
+    fn every_answer_comes_up() {
+        let statistics = Statistics::of_seeds(0..1_000);
+        assert!(statistics.missing().is_empty(), "{statistics}");
+    }
+}
