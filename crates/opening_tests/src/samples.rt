@@ -24,7 +24,7 @@ const BEGINNING: [u8; 16] = [
 const END: [u8; 4] = [0x42, 6, 0, 1];
 
 // The bytes between two rights; they stand at place 16.
-pub fn between(heap: Global, middle: &[u8]) -> Result<Vec<u8>, AllocError> {
+pub(crate) fn between(heap: Global, middle: &[u8]) -> Result<Vec<u8>, AllocError> {
     let mut tape = BEGINNING.to_vec(heap)?;
     tape.extend_from_slice(middle)?;
     tape.extend_from_slice(&END)?;
@@ -32,7 +32,7 @@ pub fn between(heap: Global, middle: &[u8]) -> Result<Vec<u8>, AllocError> {
 }
 
 // What the kiosk's reader answers: nothing where it accepts, else the fault's layer, number and place.
-pub fn open<S: CellStore>(
+pub(crate) fn open<S: CellStore>(
     tape: &[u8],
     entries: &mut Entries,
     store: &mut S,
@@ -44,14 +44,14 @@ pub fn open<S: CellStore>(
 }
 
 // How many entries stand.
-pub fn standing(entries: &Entries) -> usize {
+pub(crate) fn standing(entries: &Entries) -> usize {
     (0..NAMES)
         .filter(|name| entries.get(*name).is_some())
         .count()
 }
 
 // The tape is accepted, and so many entries and cells stand.
-pub fn accepts<S: CellStore>(
+pub(crate) fn accepts<S: CellStore>(
     rt: &impl Abort,
     tape: &[u8],
     store: &mut S,
@@ -64,7 +64,13 @@ pub fn accepts<S: CellStore>(
 }
 
 // The tape is refused in layer 2, by this number and at this place, and nothing stands, whatever did before.
-pub fn refuses<S: CellStore>(rt: &impl Abort, tape: &[u8], store: &mut S, number: u8, place: u16) {
+pub(crate) fn refuses<S: CellStore>(
+    rt: &impl Abort,
+    tape: &[u8],
+    store: &mut S,
+    number: u8,
+    place: u16,
+) {
     let mut table = Entries::none();
     assert!(rt; open(&BEGINNING, &mut table, store) == Ok(()));
     assert!(rt; standing(&table) == 2 && store.filled() == 1);

@@ -67,11 +67,11 @@ pub const THING: Stamp = Stamp {
     attributes: [None; 4],
 };
 
-pub fn board(memory: &mut [Mask]) -> Result<Board, Fail> {
+pub(crate) fn board(memory: &mut [Mask]) -> Result<Board, Fail> {
     Ok(Board::new(memory).ok().ok_or("4096 masks are a board")?)
 }
 
-pub fn list(heap: Global, records: usize) -> Result<RecordList, Fail> {
+pub(crate) fn list(heap: Global, records: usize) -> Result<RecordList, Fail> {
     let free = Record {
         row: 0,
         column: 0,
@@ -82,7 +82,7 @@ pub fn list(heap: Global, records: usize) -> Result<RecordList, Fail> {
 }
 
 // Right 1 is for those whose grade covers the other's.
-pub fn desk<C: CellStore + Drop>(store: C) -> Result<Desk<C>, Fail> {
+pub(crate) fn desk<C: CellStore + Drop>(store: C) -> Result<Desk<C>, Fail> {
     let scheme = read_scheme::<Kiosk>(&SCHEME)?;
     let mut masks = FilterMasks::none();
     masks.set(0, 2)?;
@@ -90,7 +90,7 @@ pub fn desk<C: CellStore + Drop>(store: C) -> Result<Desk<C>, Fail> {
 }
 
 // Layer, number and place of a refusal.
-pub fn told(fault: Fault) -> (u8, u8, u16) {
+pub(crate) fn told(fault: Fault) -> (u8, u8, u16) {
     (u8::from(fault.layer), u8::from(fault.reason), fault.place)
 }
 
@@ -109,7 +109,7 @@ fn stamp_in(entries: &[(Name, Stamp)], name: Name) -> Option<Stamp> {
 }
 
 // Whether these are all entries that stand, and all cells that are not empty.
-pub fn holds_just<C: CellStore>(
+pub(crate) fn holds_just<C: CellStore>(
     desk: &Desk<C>,
     entries: &[(Name, Stamp)],
     cells: &[(Name, Name, Mask)],
