@@ -3,7 +3,7 @@ use Rattle.std.proofs.Common.{◌≡◌, ◌≢◌, ℕ, ◌-◌, ◌*◌, ◌%�
 use Rattle.std.proofs.lemmas.Bool.{eqb-true, eqb-false, lt-ltb, le-ltb, eq-eqb, ne_eqb, cases_lt, cases_eq, cases_Bool, and_right, or_right}
 use Rattle.std.proofs.Math.Bool.{and-true, or-false}
 use Rattle.std.proofs.lemmas.Nat.{pow_pos, one_shl, pow_below, and-not, and_comm, or_lt, le_or_r}
-use Rattle.std.proofs.lemmas.Nat.Bits.{and_pow, bit_at_or, bit_at-lt, bit_at-pow_same, bit_at-pow_other, bit_at_xor, bit_at_above}
+use Rattle.std.proofs.lemmas.Nat.Bits.{and_pow, bit_at_or, bit_at-lt, bit_at-pow_same, bit_at-pow_other, bit_at_xor, bit_at_above, bit_at-zero}
 use Rattle.std.specs.Int.{bit_at}
 use Rattle.std.specs.Int.Bits.{or_add_and}
 use lib.Bits.{bit_and, bit_or, bit_xor, xor_add_and}
@@ -15,21 +15,25 @@ same_has : (m n q : ℕ) → bit_at m q ≡ bit_at n q → has m q ≡ has n q
 unfolding has
 same_has m n q e = ap (λ b. eqb b 1) e
 
-has_one : (m q : ℕ) → bit_at m q ≡ 1 → has m q ≡ true
+pub has_one : (m q : ℕ) → bit_at m q ≡ 1 → has m q ≡ true
 unfolding has
 has_one m q one = eq-eqb (bit_at m q) 1 one
 
-has_none : (m q : ℕ) → bit_at m q ≡ 0 → has m q ≡ false
+pub has_none : (m q : ℕ) → bit_at m q ≡ 0 → has m q ≡ false
 unfolding has
 has_none m q none = ne_eqb (bit_at m q) 1 (λ one. omega arith)
 
-one_from : (m q : ℕ) → has m q ≡ true → bit_at m q ≡ 1
+pub one_from : (m q : ℕ) → has m q ≡ true → bit_at m q ≡ 1
 unfolding has
 one_from m q h = eqb-true (bit_at m q) 1 h
 
-none_from : (m q : ℕ) → has m q ≡ false → bit_at m q ≡ 0
+pub none_from : (m q : ℕ) → has m q ≡ false → bit_at m q ≡ 0
 unfolding has
 none_from m q h = let other : bit_at m q ≢ 1 = eqb-false (bit_at m q) 1 h in omega arith
+
+-- the empty mask has none
+pub holds_nothing : (q : ℕ) → has 0 q ≡ false
+holds_nothing q = has_none 0 q (bit_at-zero q)
 
 -- a mask of 16 bits has no right from 16 on
 pub has_over : (m q : ℕ) → m < 65536 → 16 ≤ q → has m q ≡ false

@@ -5,6 +5,7 @@ pub mod Faults
 pub mod Kinds
 pub mod Kiosk
 pub mod Lists
+pub mod Lowest
 pub mod Masks
 pub mod Scales
 pub mod Stamps

@@ -35,6 +35,7 @@ impl Counts {
     {
         v.map_or(k < ATTRIBUTES, |v| self.is_value(k, v))
     }
+
     // Whether each attribute of a stamp is null or a value of its own scale.
     pub fn is_in_scales(&self, stamp: &Stamp) -> bool
         ensures { result ≡ in_scales self.now stamp.now }

@@ -5,6 +5,8 @@ ghost use Rattle.model.specs.Scales.{covers_in, four_scales};
 ghost use Rattle.model.specs.declared.counts.Counts.{Counts};
 
 use crate::counts::Counts;
+use crate::labels::Labels;
+use crate::ladder::Ladder;
 use crate::scale::Scale;
 use crate::stamp::{Attribute, Value};
 
@@ -43,3 +45,6 @@ impl<S0: Scale, S1: Scale, S2: Scale, S3: Scale> Scales for (S0, S1, S2, S3) {
         }
     }
 }
+
+// The kiosk's choice: the grade and attribute 3 are ladders, 1 and 2 are labels.
+pub type KioskScales = (Ladder, Labels, Labels, Ladder);

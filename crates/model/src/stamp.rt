@@ -1,6 +1,6 @@
 // What sort of entry it is: its kind with its four attributes.
 ghost use Rattle.std.specs.Prelude.{◌≡◌};
-ghost use Rattle.model.specs.Stamps.{attribute_of};
+ghost use Rattle.model.specs.Stamps.{attribute_of, same_stamp};
 
 use crate::kind::Kind;
 
@@ -22,6 +22,13 @@ pub struct Stamp {
 }
 
 impl Stamp {
+    // Whether it is the same stamp. Contracts cite this, and not `==`, as it decides equality in the words of the subject.
+    pub fn same(&self, other: &Stamp) -> bool
+        ensures { result ≡ same_stamp self.now other.now }
+    {
+        u8::from(self.kind) == u8::from(other.kind) && self.attributes == other.attributes
+    }
+
     // An attribute that does not exist reads as null.
     pub fn attribute(&self, k: Attribute) -> Option<Value>
         ensures { result ≡ attribute_of self.now k }

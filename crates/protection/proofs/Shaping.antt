@@ -16,7 +16,7 @@ use Rattle.scheme.specs.Views.{view}
 use Rattle.protection.proofs.Places.{Shaped}
 use Rattle.protection.proofs.Wholes.{runs_whole}
 
-shaped_after : (n cards : ℕ) (tests : List Test) (before steps : List Step) → each_after (step_fits n cards tests) before steps ≡ true → Shaped n steps
+pub shaped_after : (n cards : ℕ) (tests : List Test) (before steps : List Step) → each_after (step_fits n cards tests) before steps ≡ true → Shaped n steps
 shaped_after n cards tests before [] h = refl
 shaped_after n cards tests before (s ∷ steps) h =
     let parts = and_parts (step_fits n cards tests before s) (each_after (step_fits n cards tests) (before ++ s ∷ []) steps) h in
@@ -31,7 +31,7 @@ pub command_runs_whole : (m : Command) → RunsWhole (view m)
 command_runs_whole m = runs_whole (view m) (steps_shaped m)
 
 -- what names one of n parameters names one of more
-named_of_more : (n k i : ℕ) → n ≤ k → ltb i n ≡ true → ltb i k ≡ true
+pub named_of_more : (n k i : ℕ) → n ≤ k → ltb i n ≡ true → ltb i k ≡ true
 named_of_more n k i more h = lt-ltb i k (omega (arith, ltb-true i n h))
 
 cell_of_more : (n k r i j : ℕ) → n ≤ k → (ltb r 16 && (ltb i n && ltb j n)) ≡ true → (ltb r 16 && (ltb i k && ltb j k)) ≡ true

@@ -1,11 +1,11 @@
 -- What each primitive operation needs for a sound state to stay sound.
-use Rattle.std.proofs.Common.{◌≡◌, ℕ, ◌-◌, ◌<◌, ◌≤◌, ◌^◌, Bool, true, false, ◌||◌, eqb, Some, None, Option, is_some, refl, ◌∙◌, ⊎_elim, arith}
+use Rattle.std.proofs.Common.{◌≡◌, ℕ, ◌<◌, Bool, true, false, ◌||◌, eqb, Some, None, Option, is_some, refl, ◌∙◌, ⊎_elim, arith}
 use Rattle.std.specs.Option.{option_map}
-use Rattle.std.proofs.lemmas.Bool.{cases_eq, cases_Bool, and_left, and_right, or_parts, eq-eqb, ne_eqb, false≢true, both_ways, cond_both}
+use Rattle.std.proofs.lemmas.Bool.{cases_eq, cases_Bool, and_left, and_right, or_parts, eq-eqb, ne_eqb, false≢true, both_ways}
 use Rattle.model.specs.declared.kind.Kind.{Kind}
 use Rattle.model.specs.declared.stamp.Stamp.{Stamp}
 use Rattle.model.proofs.Rights.{without_le}
-use Rattle.model.specs.Masks.{has, with_right, without_right}
+use Rattle.model.specs.Masks.{with_right, without_right}
 use Rattle.stores.specs.Matrices.{Matrix, written}
 use Rattle.protection.specs.Operations.{with_entry, without, null_stamp, with_attribute, enter, delete, set, create, destroy}
 use Rattle.protection.specs.Sound.{Sound}

@@ -1,9 +1,10 @@
 -- A command on a protection state: its tests are read in the state before, then its steps run in order.
-use Rattle.std.specs.Prelude.{ℕ, Bool, true, false, cond, not, List, Some, None, Option, fold, ◌==◌, slice_index_or}
+use Rattle.std.specs.Prelude.{ℕ, Bool, cond, not, List, fold, slice_index_or}
 use Rattle.model.specs.declared.kind.Kind.{Kind}
 use Rattle.model.specs.declared.kind.Kind.TheVariants.{Subject, Object}
 use Rattle.model.specs.Masks.{has}
 use Rattle.model.specs.Scales.{both_cover}
+use Rattle.model.specs.Stamps.{same_value}
 use Rattle.scheme.specs.declared.step.Step.{Step}
 use Rattle.scheme.specs.declared.step.Step.TheVariants.{Enter, Delete, Set, Create, Destroy}
 use Rattle.scheme.specs.declared.test.Test.{Test}
@@ -18,13 +19,6 @@ name_at names i = slice_index_or names i 64
 -- What the parameters see of a state, where `name` gives the name for each of them: their entries, and the cells between.
 abbrev pub seen : (name : ℕ → ℕ) → Protection → Protection
 seen name p = record { entry = λ i. p.entry (name i); cells = λ i j. p.cells (name i) (name j) }
-
--- both null, or the same value
-abbrev pub same_value : Option ℕ → Option ℕ → Bool
-same_value None None = true
-same_value None (Some b) = false
-same_value (Some a) None = false
-same_value (Some a) (Some b) = a == b
 
 -- A test passes, by what the parameters see.
 abbrev pub passes : (covers : (k a b : ℕ) → Bool) → Protection → Test → Bool

@@ -1,5 +1,5 @@
 -- The primitive operations, each with its whole frame: all that a clause does not name stays as it was.
-use Rattle.std.specs.Prelude.{ℕ, cond, ◌||◌, [], ◌∷◌, Some, None, Option, ◌==◌, slice_set}
+use Rattle.std.specs.Prelude.{ℕ, cond, ◌||◌, Some, None, Option, ◌==◌, slice_set}
 use Rattle.std.specs.Option.{option_map}
 use Rattle.model.specs.declared.kind.Kind.{Kind}
 use Rattle.model.specs.declared.stamp.Stamp.{Stamp}

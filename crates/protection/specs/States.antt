@@ -1,8 +1,7 @@
 -- The protection state: which entry stands under which name, and what each may do with each.
-use Rattle.std.specs.Prelude.{ℕ, Bool, false, Some, None, Option, is_some}
-use Rattle.model.specs.declared.kind.Kind.{Kind}
-use Rattle.model.specs.declared.kind.Kind.TheVariants.{Subject, Object}
+use Rattle.std.specs.Prelude.{ℕ, Bool, Some, None, Option, is_some}
 use Rattle.model.specs.declared.stamp.Stamp.{Stamp}
+pub use Rattle.model.specs.Stamps.{is_subject}
 use Rattle.model.specs.Stamps.{attribute_of}
 use Rattle.stores.specs.Matrices.{Matrix, blank}
 
@@ -18,15 +17,6 @@ nothing = record { entry = λ n. None; cells = blank }
 -- an entry stands under this name
 abbrev pub stands : Protection → (name : ℕ) → Bool
 stands s n = is_some (s.entry n)
-
-abbrev pub subject_kind : Kind → Bool
-subject_kind Subject = Bool.true
-subject_kind Object = false
-
--- an entry, if there is one, that is a subject
-abbrev pub is_subject : Option Stamp → Bool
-is_subject None = false
-is_subject (Some stamp) = subject_kind stamp.kind
 
 -- attribute k of an entry; where no entry is, all are null
 abbrev pub attribute_at : Option Stamp → (k : ℕ) → Option ℕ

@@ -1,9 +1,8 @@
 -- Four filters that stand one on the other ask what each attribute asks, and with empty masks they ask nothing.
-use Rattle.std.proofs.Common.{◌≡◌, ℕ, ◌%◌, ◌^◌, Bool, true, false, ◌&&◌, eqb, refl, ap, ◌∙◌}
+use Rattle.std.proofs.Common.{◌≡◌, ℕ, Bool, true, false, ◌&&◌, refl, ap, ◌∙◌}
 use mathlib.Core.Bool.{and_comm, and-true}
-use native.Mathlib.Nat.{zero-div}
-use Rattle.model.specs.Masks.{has}
 use Rattle.model.specs.Scales.{four_scales}
+use Rattle.model.proofs.Rights.{holds_nothing}
 use Rattle.rulings.specs.declared.filter.AttributeFilter.{AttributeFilter}
 use Rattle.rulings.specs.declared.matrix.MatrixRuling.{MatrixRuling}
 use Rattle.rulings.specs.declared.pile.FilterMasks.{FilterMasks}
@@ -13,13 +12,8 @@ use Rattle.rulings.specs.PileMasks.{mask_of, no_masks}
 use Rattle.rulings.specs.Piles.{pile_says}
 use Rattle.rulings.specs.Questions.{held}
 
--- the empty mask has no right
-none_has : (right : ℕ) → has 0 right ≡ false
-unfolding has
-none_has right = ap (λ n. eqb (n % 2) 1) (zero-div (2 ^ right))
-
 pub nothing_asked : (covers : ℕ → ℕ → ℕ → Bool) (q : Question) → pile_says covers no_masks q ≡ held q
-nothing_asked covers q = rw (none_has q.right) (and-true (held q))
+nothing_asked covers q = rw (holds_nothing q.right) (and-true (held q))
 
 regrouped : (h a b c d : Bool) → (h && d && c && b && a) ≡ (h && (a && (b && (c && d))))
 regrouped false a b c d = refl
