@@ -1,7 +1,6 @@
 -- The state that well-formed items open has exactly the entries and rights that they list.
 use Rattle.std.proofs.Common.{◌≡◌, ◌≢◌, ℕ, ◌<◌, true, false, cond, ◌&&◌, ◌||◌, eqb, List, [], ◌∷◌, ◌++◌, is_some, Some, None, Option, ◌⊎◌, inl, inr, ⊎_elim, sym, ap, ◌∙◌, subst, arith, ◌↔◌}
 use Rattle.std.proofs.lemmas.Bool.{and_parts, and_from, eqb-true, eq-eqb, ne_eqb, cases_eq, cases_Bool, or_cases, or_right, not-true, not-false, both_ways, lt-ltb, ltb-true}
-use Rattle.std.proofs.lemmas.Nat.Bits.{bit_at-zero}
 use Rattle.std.proofs.Math.Bool.{and-true, or-false}
 use Rattle.std.proofs.lemmas.List.Elements.{Contains-append_left, Contains-push, Contains-push_cases}
 use Rattle.std.specs.List.{Any, Contains}
@@ -10,15 +9,16 @@ use Rattle.model.specs.declared.kind.Kind.{Kind}
 use Rattle.model.specs.declared.stamp.Stamp.{Stamp}
 use Rattle.model.specs.Masks.{has, with_right}
 use Rattle.model.specs.Stamps.{stamp_of}
-use Rattle.model.proofs.Rights.{with_has}
+use Rattle.model.proofs.Rights.{with_has, holds_nothing}
 use Rattle.model.proofs.Unbroken.{to_unbroken}
 use Rattle.protection.specs.Operations.{with_entry}
 use Rattle.protection.specs.States.{Protection, nothing, stands}
 use Rattle.stores.specs.Matrices.{Matrix, written}
+use Rattle.tapes.proofs.ItemTapes.{kept_of_all}
 use Rattle.opening.specs.Items.{Item, entry, right, with_item, opened}
 use Rattle.opening.specs.Opened.{Lists, Exactly}
 use Rattle.opening.specs.Rules.{item_rules, broken_after, well_formed}
-use Rattle.opening.proofs.Forming.{opened_push, kept_of_all}
+use Rattle.opening.proofs.Forming.{opened_push}
 
 -- ---- items that are listed, when one comes at the end
 
@@ -145,14 +145,10 @@ module _ (items : List Item) (p : Protection) (exact : Exactly items p) where
 
 -- ---- all items
 
-has_nothing : (r : ℕ) → has 0 r ≡ false
-unfolding has
-has_nothing r = ap (λ b. eqb b 1) (bit_at-zero r)
-
 nothing_exact : Exactly [] nothing
 nothing_exact = record {
   entries = λ n stamp. (λ h. cc, λ l. absurd (omega (arith, l.2)));
-  rights = λ r s o. (λ h. absurd (both_ways _ (has_nothing r) h), λ l. absurd (omega (arith, l.1)));
+  rights = λ r s o. (λ h. absurd (both_ways _ (holds_nothing r) h), λ l. absurd (omega (arith, l.1)));
 }
 
 module _ (c : Counts) (limit : ℕ) where
@@ -166,6 +162,6 @@ module _ (c : Counts) (limit : ℕ) where
 
   pub opened_exact : (items : List Item) → well_formed c limit items ≡ true → Exactly items (opened items)
   opened_exact items formed =
-      kept_of_all c limit (λ l. Exactly l (opened l))
+      kept_of_all (broken_after c limit) (λ l. Exactly l (opened l))
       (λ before i exact ok. subst (Exactly (before ++ i ∷ [])) (sym (opened_push before i)) (item_exact before i exact ok))
       nothing_exact items formed

@@ -1,5 +1,5 @@
 -- The language of the opening tape: its orders can be told apart, and the table of orders finds each of them.
-use Rattle.std.proofs.Common.{◌≡◌, ℕ, true, cond, eqb, List, [], ◌∷◌, length, is_some, Some, None, Option, refl}
+use Rattle.std.proofs.Common.{◌≡◌, ℕ, true, cond, eqb, List, length, is_some, Some, None, Option, refl}
 use Rattle.model.specs.declared.counts.Counts.{Counts}
 use Rattle.model.specs.declared.kind.Kind.{Kind}
 use Rattle.model.specs.declared.kind.Kind.TheVariants.{Subject, Object}
@@ -9,11 +9,12 @@ use Rattle.tapes.specs.declared.tape.Tape.TheVariants.{Opening}
 use Rattle.tapes.specs.Orders.{Case, case_of}
 use Rattle.tapes.specs.Readers.{row_on}
 use Rattle.tapes.specs.Table.{row}
+use Rattle.tapes.proofs.ItemTapes.{Items, items_language}
 use Rattle.tapes.proofs.Languages.{Language}
-use Rattle.tapes.proofs.Values.{from_byte, to_byte}
+use Rattle.tapes.proofs.Values.{from_byte, to_byte, same_case}
 use Rattle.opening.specs.Encoding.{item_case}
 use Rattle.opening.specs.Items.{Item, entry, right}
-use Rattle.opening.specs.Reading.{opening_grammar}
+use Rattle.opening.specs.Rules.{broken_after}
 use Rattle.opening.specs.Said.{entry_read, right_read, said}
 
 -- what an order's byte and operands say
@@ -36,9 +37,6 @@ listed (entry Subject n a b c d) = refl
 listed (entry Object n a b c d) = refl
 listed (right r s o) = refl
 
-same_case : (number n a b c d a' b' c' d' : ℕ) → a ≡ a' → b ≡ b' → c ≡ c' → d ≡ d' → ◌≡◌ {A = Case} (record { number = number; values = n ∷ a ∷ b ∷ c ∷ d ∷ [] }) (record { number = number; values = n ∷ a' ∷ b' ∷ c' ∷ d' ∷ [] })
-same_case number n a b c d a' b' c' d' p q r s = λ i. record { number = number; values = n ∷ p i ∷ q i ∷ r i ∷ s i ∷ [] }
-
 pub says : (o : Order) → is_some (row_on (case_of o).number Opening) ≡ true → (i : Item) × ((said o ≡ Some i) × (item_case i ≡ case_of o))
 says (order.Card x) h = (_, (refl, same_case 0x40 _ _ _ _ _ _ _ _ _ (to_byte _) (to_byte _) (to_byte _) (to_byte _)))
 says (order.Thing x) h = (_, (refl, same_case 0x41 _ _ _ _ _ _ _ _ _ (to_byte _) (to_byte _) (to_byte _) (to_byte _)))
@@ -58,16 +56,8 @@ says (order.Stamp x) h = cc
 says (order.Allow x) h = cc
 says (order.Ban x) h = cc
 
+abbrev pub opening_items : Items Item
+opening_items = record { tape = Opening; said = said; written = item_case; listed = listed; read_back = read_back; back = back; says = says }
+
 abbrev pub opening_language : Counts → (limit : ℕ) → Language Item (List Item)
-opening_language c limit =
-    record {
-      tape = Opening;
-      grammar = opening_grammar c limit;
-      said = said;
-      written = item_case;
-      spelt_so = λ i. refl;
-      listed = listed;
-      read_back = read_back;
-      back = back;
-      says = says;
-    }
+opening_language c limit = items_language opening_items (broken_after c limit)

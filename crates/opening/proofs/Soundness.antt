@@ -6,9 +6,10 @@ use Rattle.model.specs.Stamps.{stamp_of}
 use Rattle.model.proofs.Unbroken.{to_unbroken}
 use Rattle.protection.proofs.Sound.{sound_nothing, sound_put, sound_enter}
 use Rattle.protection.specs.Sound.{Sound}
+use Rattle.tapes.proofs.ItemTapes.{kept_of_all}
 use Rattle.opening.specs.Items.{Item, entry, right, with_item, opened}
 use Rattle.opening.specs.Rules.{item_rules, broken_after, well_formed}
-use Rattle.opening.proofs.Forming.{opened_push, kept_of_all}
+use Rattle.opening.proofs.Forming.{opened_push}
 
 module _ (c : Counts) (limit : ℕ) where
   item_sound : (items : List Item) (i : Item) → Sound (opened items) → broken_after c limit items i ≡ None → Sound (with_item (opened items) i)
@@ -22,6 +23,6 @@ module _ (c : Counts) (limit : ℕ) where
 
   pub opened_sound : (items : List Item) → well_formed c limit items ≡ true → Sound (opened items)
   opened_sound items formed =
-      kept_of_all c limit (λ l. Sound (opened l))
+      kept_of_all (broken_after c limit) (λ l. Sound (opened l))
       (λ before i sound ok. subst Sound (sym (opened_push before i)) (item_sound before i sound ok))
       sound_nothing items formed

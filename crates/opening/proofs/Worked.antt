@@ -5,14 +5,15 @@ use Rattle.model.specs.Answers.{Answer, accepted, refused}
 use Rattle.model.specs.Masks.{has, with_right}
 use Rattle.stores.specs.Matrices.{sum_below}
 use Rattle.tapes.specs.Grammars.{breaks_rule}
+use Rattle.tapes.proofs.ItemTapes.{formed_run}
 use Rattle.model.specs.declared.kind.Kind.TheVariants.{Subject, Object}
+use Rattle.opening.specs.Encoding.{code}
 use Rattle.opening.specs.Items.{Item, entry, right, opened}
 use Rattle.opening.specs.Reading.{OpeningRead}
-use Rattle.opening.specs.Rules.{well_formed}
+use Rattle.opening.specs.Rules.{broken_after, well_formed}
 use Rattle.model.specs.Kiosk.{kiosk_counts}
 use Rattle.opening.specs.Worked.{kiosk_tape, kiosk_items, kiosk_state, KioskReads, SmallKiosk}
 use Rattle.opening.proofs.Answering.{one_reading}
-use Rattle.opening.proofs.Forming.{formed_run}
 
 only : (limit : ℕ) (reading : Answer (List Item)) → OpeningRead kiosk_counts limit kiosk_tape reading → KioskReads limit reading
 only limit reading read answer = (λ other. one_reading kiosk_counts limit kiosk_tape answer reading other read, λ is. subst (OpeningRead kiosk_counts limit kiosk_tape) (sym is) read)
@@ -46,7 +47,7 @@ full =
           before = four;
           reached = four;
           rest = 0x42 ∷ 1 ∷ 0 ∷ 1 ∷ [];
-          lawful = formed_run kiosk_counts 1 [] four refl;
+          lawful = formed_run (broken_after kiosk_counts 1) code [] four refl;
           split = refl;
           here = refl;
           why = breaks_rule (right 1 0 1) [] refl refl;

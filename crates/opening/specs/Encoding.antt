@@ -1,6 +1,5 @@
 -- The bytes of an opening. An item's case has its order byte as its number and the operands as its values.
 use Rattle.std.specs.Prelude.{ℕ, List, [], ◌∷◌}
-use Rattle.std.specs.List.{flat_map}
 use Rattle.model.specs.declared.kind.Kind.{Kind}
 use Rattle.model.specs.declared.kind.Kind.TheVariants.{Subject, Object}
 use Rattle.tapes.specs.Orders.{Case, spelt}
@@ -18,6 +17,3 @@ item_case (right r s o) = record { number = 0x42; values = r ∷ s ∷ o ∷ [] 
 
 abbrev pub code : Item → List ℕ
 code i = spelt (item_case i)
-
-abbrev pub encode : List Item → List ℕ
-encode items = flat_map code items

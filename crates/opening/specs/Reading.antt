@@ -1,29 +1,23 @@
 -- What it is to read an opening tape.
-use Rattle.std.specs.Prelude.{◌≡◌, ℕ, ◌≤◌, true, false, List, [], ◌∷◌, ◌++◌, length}
+use Rattle.std.specs.Prelude.{ℕ, List}
 use Rattle.model.specs.declared.counts.Counts.{Counts}
 use Rattle.model.specs.Answers.{Answer}
 use Rattle.tapes.specs.declared.tape.Tape.TheVariants.{Opening}
 use Rattle.tapes.specs.Answering.{TapeRead, AcceptedAsEncoded, OneAnswer}
 use Rattle.tapes.specs.Grammars.{Grammar}
-use Rattle.opening.specs.Encoding.{code, encode}
+use Rattle.tapes.specs.ItemTapes.{items_grammar, EncodesItems}
+use Rattle.opening.specs.Encoding.{code}
 use Rattle.opening.specs.Items.{Item}
-use Rattle.opening.specs.Rules.{broken_after, well_formed}
+use Rattle.opening.specs.Rules.{broken_after}
 
 -- The language of the opening tape: what has been read are the items so far. A tape may end after each.
 abbrev pub opening_grammar : Counts → (limit : ℕ) → Grammar Item (List Item)
-opening_grammar c limit =
-    record {
-      code = code;
-      start = [];
-      broken = broken_after c limit;
-      extended = λ items i. items ++ i ∷ [];
-      unfinished = λ items. false;
-    }
+opening_grammar c limit = items_grammar code (broken_after c limit)
 
 -- The tape is not too long, it is the encoding of these items, and they are well-formed. A right may be repeated, so there are
 -- well-formed items whose encoding is longer than a tape.
 abbrev pub Encodes : Counts → (limit : ℕ) → List ℕ → List Item → Type 0
-Encodes c limit tape items = (length tape ≤ 65535) × (tape ≡ encode items) × (well_formed c limit items ≡ true)
+Encodes c limit = EncodesItems code (broken_after c limit)
 
 -- Accepted: the tape encodes these items. Refused, in layer 2: for its length, or at the first order that breaks a rule, by the
 -- lowest rule that is broken there.

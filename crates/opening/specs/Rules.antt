@@ -1,12 +1,12 @@
 -- The rules on an item, after those that come before it on the tape.
-use Rattle.std.specs.Prelude.{ℕ, Bool, not, ◌&&◌, ◌||◌, List, [], ◌∷◌, Option, is_none, nat_lt}
+use Rattle.std.specs.Prelude.{ℕ, Bool, not, ◌&&◌, ◌||◌, List, [], ◌∷◌, Option, nat_lt}
 use Rattle.model.specs.declared.counts.Counts.{Counts}
 use Rattle.model.specs.Answers.{lowest}
 use Rattle.model.specs.Counts.{in_scales}
-use Rattle.model.specs.Lists.{each_after}
 use Rattle.model.specs.Stamps.{stamp_of}
 use Rattle.protection.specs.States.{Protection, stands, is_subject}
 use Rattle.stores.specs.Matrices.{is_name, some, count}
+use Rattle.tapes.specs.ItemTapes.{well_formed_items}
 use Rattle.opening.specs.Items.{Item, entry, right, opened}
 
 -- names are below 64 and rights below 16, and each attribute is null or a value of its own scale
@@ -29,10 +29,14 @@ has_cell limit p (right r s o) = some (p.cells s o) || nat_lt (count p.cells) li
 abbrev pub item_rules : Counts → (limit : ℕ) → Protection → Item → List (ℕ × Bool)
 item_rules c limit p i = (5, not (in_range c i)) ∷ (7, not (suits p i)) ∷ (8, not (has_cell limit p i)) ∷ []
 
--- the lowest rule that an item breaks after these, if it breaks any
+-- the lowest rule that an item breaks in a state, if it breaks any
+abbrev pub rule : Counts → (limit : ℕ) → Protection → Item → Option ℕ
+rule c limit p i = lowest (item_rules c limit p i)
+
+-- the same after these items
 abbrev pub broken_after : Counts → (limit : ℕ) → (before : List Item) → Item → Option ℕ
-broken_after c limit before i = lowest (item_rules c limit (opened before) i)
+broken_after c limit before = rule c limit (opened before)
 
 -- No item breaks a rule after those before it.
 abbrev pub well_formed : Counts → (limit : ℕ) → List Item → Bool
-well_formed c limit items = each_after (λ before i. is_none (broken_after c limit before i)) [] items
+well_formed c limit = well_formed_items (broken_after c limit)

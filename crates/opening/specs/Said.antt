@@ -3,17 +3,13 @@ use Rattle.std.specs.Prelude.{ℕ, List, Some, None, Option, slice_index}
 use Rattle.model.specs.declared.counts.Counts.{Counts}
 use Rattle.model.specs.declared.kind.Kind.{Kind}
 use Rattle.model.specs.declared.kind.Kind.TheVariants.{Subject, Object}
-use Rattle.model.specs.Answers.{lowest}
 use Rattle.protection.specs.States.{Protection}
 use Rattle.tapes.specs.declared.order.Order.{Order}
 use Rattle.tapes.specs.declared.order.Order.TheVariants.{Begin, End, Holds, Is, IsNot, Covers, Enter, Delete, Set, Create, Destroy, Card, Thing, Right, Stamp, Allow, Ban}
-use Rattle.tapes.specs.Values.{value_read}
+use Rattle.tapes.specs.Taking.{rule_of, with_order}
+use Rattle.tapes.specs.Values.{value_at}
 use Rattle.opening.specs.Items.{Item, entry, right, with_item}
-use Rattle.opening.specs.Rules.{item_rules}
-
--- the value that operand k stands for
-abbrev pub value_at : List ℕ → (k : ℕ) → Option ℕ
-value_at x k = value_read (slice_index x k)
+use Rattle.opening.specs.Rules.{rule}
 
 -- the item with these operands
 abbrev pub entry_read : Kind → List ℕ → Item
@@ -44,10 +40,8 @@ said (Ban x) = None
 
 -- the lowest rule that it breaks; an order of another tape is out of place
 abbrev pub broken_by : Counts → (limit : ℕ) → Protection → Option Item → Option ℕ
-broken_by c limit p None = Some 3
-broken_by c limit p (Some i) = lowest (item_rules c limit p i)
+broken_by c limit = rule_of (rule c limit)
 
 -- the state with what it lists
 abbrev pub with_listed : Protection → Option Item → Protection
-with_listed p None = p
-with_listed p (Some i) = with_item p i
+with_listed = with_order with_item

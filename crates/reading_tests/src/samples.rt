@@ -1,7 +1,6 @@
 // Tapes for the tests, and what the kiosk's reader says of them.
 use model::fault::Fault;
-use model::labels::Labels;
-use model::ladder::Ladder;
+use model::scales::KioskScales;
 use scheme_tape::lawful::LawfulScheme;
 use scheme_tape::reader::read_scheme;
 use std::alloc::{AllocError, Global};
@@ -11,8 +10,6 @@ pub const SMALL_KIOSK: [u8; 36] = [
     0x10, 3, 3, 0x20, 0, 0, 2, 0x23, 0, 0, 1, 0x30, 0, 1, 2, 0x1F, 0x10, 2, 3, 0x21, 0, 0, 3, 0x33,
     1, 0x32, 1, 0, 1, 0x1F, 0x10, 1, 0, 0x34, 0, 0x1F,
 ];
-
-type KioskScales = (Ladder, Labels, Labels, Ladder);
 
 pub fn read(tape: &[u8]) -> Result<LawfulScheme<KioskScales>, Fault> {
     read_scheme(tape)

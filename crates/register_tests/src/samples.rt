@@ -5,6 +5,7 @@ use model::labels::Labels;
 use model::ladder::Ladder;
 use model::mask::Mask;
 use model::name::{NAMES, Name};
+use model::scales::KioskScales;
 use model::stamp::Stamp;
 use register::register::Register;
 use rulings::pile::{FilterMasks, FourFilters, four_filters};
@@ -16,9 +17,7 @@ use stores::list::RecordList;
 use stores::record::Record;
 use stores::store::CellStore;
 
-pub type Kiosk = (Ladder, Labels, Labels, Ladder);
-
-pub type Desk<C> = Register<Kiosk, C, FourFilters<Ladder, Labels, Labels, Ladder>>;
+pub type Desk<C> = Register<KioskScales, C, FourFilters<Ladder, Labels, Labels, Ladder>>;
 
 // The small kiosk's commands, and then: move a right on, label a thing and take it away, make a card with rights on itself.
 const SCHEME: [u8; 76] = [
@@ -83,7 +82,7 @@ pub(crate) fn list(heap: Global, records: usize) -> Result<RecordList, Fail> {
 
 // Right 1 is for those whose grade covers the other's.
 pub(crate) fn desk<C: CellStore + Drop>(store: C) -> Result<Desk<C>, Fail> {
-    let scheme = read_scheme::<Kiosk>(&SCHEME)?;
+    let scheme = read_scheme::<KioskScales>(&SCHEME)?;
     let mut masks = FilterMasks::none();
     masks.set(0, 2)?;
     Ok(Register::new(scheme, store, four_filters(masks)))

@@ -1,6 +1,8 @@
 pub mod Handing
+pub mod ItemTapes
 pub mod Languages
 pub mod Law
+pub mod Making
 pub mod Reading
 pub mod Rows
 pub mod Stepping

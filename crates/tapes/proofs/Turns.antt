@@ -1,6 +1,7 @@
 -- The turns of a loop over the orders of a tape: what has been read is a lawful run of orders, and where the loop stops it
 -- shows why.
-use Rattle.std.proofs.Common.{◌≡◌, ℕ, ◌+◌, ◌<◌, ◌≤◌, true, false, List, [], ◌∷◌, ◌++◌, length, drop, Some, None, Ok, Err, Option, Result, sym, refl, ap, ◌∙◌, subst, append_assoc, append-nil, arith, length-drop, inr}
+use Rattle.std.proofs.Common.{◌≡◌, ℕ, ◌+◌, ◌<◌, ◌≤◌, Bool, true, false, cond, leb, List, [], ◌∷◌, ◌++◌, length, drop, Some, None, Ok, Err, Option, Result, sym, refl, ap, ◌∙◌, subst, append_assoc, append-nil, arith, length-drop, inl, inr}
+use Rattle.std.proofs.lemmas.Bool.{leb-false}
 use Rattle.std.proofs.lemmas.List.{drop-drop, drop_all, length-append, flat_map_more}
 use Rattle.model.specs.declared.fault.Fault.{Fault}
 use Rattle.model.specs.Answers.{accepted, refusal, unless, answer}
@@ -11,7 +12,7 @@ use Rattle.tapes.specs.declared.tape.Tape.{Tape}
 use Rattle.tapes.specs.Answering.{RefusedIn, TapeRead}
 use Rattle.tapes.specs.Grammars.{Grammar, Runs, done, codes, Fails, no_order, breaks_rule, cut_short, Stopped, Whole}
 use Rattle.tapes.specs.Orders.{Case, spelt, case_of}
-use Rattle.tapes.specs.Readers.{At, placed, first_order, fault_of, handed_on, size_of}
+use Rattle.tapes.specs.Readers.{At, placed, first_order, fault_of, handed_on, measured, size_of}
 use Rattle.tapes.specs.Steps.{Reads, Steps}
 use Rattle.tapes.specs.Taking.{broken_order, extended_order, taken}
 use Rattle.tapes.specs.Tapes.{layer_of}
@@ -42,6 +43,16 @@ breaks l d p = broken_order l.grammar d (l.said p.order)
 
 abbrev pub extends : {I D : Type 0} → Language I D → D → Placed → D
 extends l d p = extended_order l.grammar d (l.said p.order)
+
+-- too many bytes
+pub too_many : {I D : Type 0} (l : Language I D) (bytes : List ℕ) (f : Fault) → refusal f ≡ measured l.tape bytes → RightFault l bytes f
+too_many l bytes f h = by (leb (length bytes) 65535) refl h
+  where
+    by : (b : Bool) → leb (length bytes) 65535 ≡ b → refusal f ≡ cond b (accepted (length bytes)) (fault_of l.tape 1 65535) → RightFault l bytes f
+    by true fits is = cc
+    by false over is =
+        let long : 65535 < length bytes = leb-false _ _ over in
+        subst (TapeRead {X = ℕ} l.tape l.grammar (λ b x. ⊥) bytes) (sym is) (refl, inl (long, refl, refl))
 
 pub stands_first : {I D : Type 0} {l : Language I D} {bytes : List ℕ} {s o : Orders} {d : D} → Reads l.tape bytes 0 o → s ≡ o → d ≡ l.grammar.start → Stands l bytes s d
 stands_first {I} {D} {l} {bytes} {s} {o} {d} start same empty =

@@ -1,5 +1,6 @@
 pub mod Answering
 pub mod Grammars
+pub mod ItemTapes
 pub mod Orders
 pub mod Readers
 pub mod Steps

@@ -1,7 +1,8 @@
 use Rattle.std.proofs.Common.{refl, ◌∙◌}
 use Rattle.std.proofs.lemmas.Result.{err_from_is_err_and}
 use Rattle.protection.specs.Standing.{standing}
-use Rattle.opening.proofs.Taking.{too_long, reached_first, no_order, broken, reached_on, all_taken}
+use Rattle.tapes.proofs.Making.{reached_first}
+use Rattle.opening.proofs.Taking.{too_long, no_order, broken, taken_on, all_taken}
 use Rattle.opening.proofs.reader.read_orders.Goals as goal
 
 pub returns-in_err-placed-items-clause-taken : goal.returns-in_err-placed-items-clause-taken
@@ -15,7 +16,7 @@ pub loop-placed-init : goal.loop-placed-init
 loop-placed-init g c = record {
   can = tt;
   ends = tt;
-  reached = reached_first c.args.counts.now (g.C.CellStore.most c.args.store.now) c.args.tape.now _ _ _ c.in_ok-placed-items.ensures.start c.into_iter-placed-iterator.ensures.into_iter_gives c.requires;
+  reached = reached_first c.in_ok-placed-items.ensures.start c.into_iter-placed-iterator.ensures.into_iter_gives c.requires;
   limit = refl;
 }
 
@@ -31,7 +32,7 @@ loop-placed-preserved g c =
     record {
       can = tt;
       ends = tt;
-      reached = reached_on c.args.counts.now (g.C.CellStore.most c.args.store.now) c.args.tape.now _ _ _ stands.reached _ stands.limit _ _ c.in-Some.ensures.steps c.in_ok-placed.was _ c.in_ok-take_in.ensures.answer c.take_in.ensures.after;
+      reached = taken_on c.args.counts.now (g.C.CellStore.most c.args.store.now) c.args.tape.now _ _ _ stands.reached _ stands.limit _ _ c.in-Some.ensures.steps c.in_ok-placed.was _ c.in_ok-take_in.ensures.answer c.take_in.ensures.after;
       limit = c.take_in.ensures.limit ∙ stands.limit;
     }
 
