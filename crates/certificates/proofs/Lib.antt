@@ -1,0 +1,10 @@
+pub mod BanLanguage
+pub mod Each
+pub mod Language
+pub mod Listed
+pub mod Listing
+pub mod Masks
+pub mod Numbers
+pub mod Readings
+pub mod Stamps
+pub mod Worked

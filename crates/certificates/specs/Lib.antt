@@ -1,0 +1,12 @@
+pub mod BanTapes
+pub mod Bans
+pub mod Certificates
+pub mod Encoding
+pub mod Items
+pub mod Listing
+pub mod Reading
+pub mod Rules
+pub mod Said
+pub mod SaidBans
+pub mod Views
+pub mod Worked
