@@ -1,0 +1,5 @@
+pub mod Binding
+pub mod Cells
+pub mod Listing
+pub mod Moves
+pub mod Noting

@@ -1,0 +1,7 @@
+pub mod Binding
+pub mod Castings
+pub mod Closure
+pub mod Conditions
+pub mod Escapes
+pub mod Numbers
+pub mod Shifts
