@@ -1,0 +1,15 @@
+use Rattle.kiosk_c.proofs.OneCode.{one_code}
+use Rattle.kiosk_c.proofs.Worked.{worked_codes}
+use Rattle.kiosk_c.proofs.handover.kiosk_check.Goals as goal
+
+pub returns-in-Ok-clause-one : goal.returns-in-Ok-clause-one
+returns-in-Ok-clause-one c = one_code
+
+pub returns-in-Ok-clause-worked : goal.returns-in-Ok-clause-worked
+returns-in-Ok-clause-worked c = worked_codes
+
+pub returns-in-Err-clause-one : goal.returns-in-Err-clause-one
+returns-in-Err-clause-one c = one_code
+
+pub returns-in-Err-clause-worked : goal.returns-in-Err-clause-worked
+returns-in-Err-clause-worked c = worked_codes
