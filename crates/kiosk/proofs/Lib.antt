@@ -1,2 +1,3 @@
 mod Carrying
 mod Answering
+mod Witnessing

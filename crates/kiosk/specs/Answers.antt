@@ -1,19 +1,21 @@
 -- What is printed for an answer.
 use Rattle.std.specs.Prelude.{ℕ, true, false, List, ◌++◌, Some, None, codes, decimal, Option}
+use Rattle.flaw_words.specs.Words.{flaw_words}
 use Rattle.words.specs.Listings.{listings_words}
 use Rattle.words.specs.Masks.{mask_words}
 use Rattle.words.specs.Sentences.{fault_words}
 use Rattle.setups.specs.Setups.{store_words, setup_lines}
 use Rattle.kiosk.specs.declared.answer.Reply.{Reply}
-use Rattle.kiosk.specs.declared.answer.Reply.TheVariants.{Accepted, Listing, StoreChosen, FilterChosen, Opened, Done, Ruled, State}
+use Rattle.kiosk.specs.declared.answer.Reply.TheVariants.{Accepted, Listing, StoreChosen, FilterChosen, Opened, Done, Ruled, State, Checked}
 use Rattle.kiosk.specs.declared.answer.Refusal.{Refusal}
-use Rattle.kiosk.specs.declared.answer.Refusal.TheVariants.{Fault, NoRegister, BadLine}
+use Rattle.kiosk.specs.declared.answer.Refusal.TheVariants.{Fault, Flawed, NoRegister, BadLine}
 use Rattle.kiosk.specs.Sessions.{Kiosk}
 use Rattle.kiosk.specs.Desks.{Made}
 use Rattle.kiosk.specs.States.{state_words}
 
 abbrev pub refusal_words : Refusal → List ℕ
 refusal_words (Fault f) = fault_words f
+refusal_words (Flawed f flaw entry) = fault_words f ++ (codes ": " ++ flaw_words flaw entry)
 refusal_words NoRegister = codes "error no register"
 refusal_words BadLine = codes "error bad line"
 
@@ -36,3 +38,4 @@ reply_words k (Done n) = codes "ok " ++ decimal n
 reply_words k (Ruled true) = codes "ok yes"
 reply_words k (Ruled false) = codes "ok no"
 reply_words k State = words_of (λ m. state_words m.state) k.made
+reply_words k Checked = codes "ok -- the certificate is accepted: it holds after every request"

@@ -2,6 +2,10 @@
 use Rattle.std.specs.Prelude.{◌≡◌, ℕ, Bool, List, length, Some, None, Option, Result, Ok, Err}
 use Rattle.model.specs.Answers as Answers
 use Rattle.model.specs.Faults.{layer_number, reason_number}
+use Rattle.model.specs.declared.fault.Fault.{Fault as Faulty}
+use Rattle.checker.specs.Checks.{Checked}
+use Rattle.checker.specs.declared.flaw.Flaw.{Flaw}
+use Rattle.model.specs.declared.stamp.Stamp.{Stamp}
 use Rattle.register.specs.Reads.{ruled}
 use Rattle.register.specs.Openings.{Opens}
 use Rattle.register.specs.Requests.{Requested}
@@ -9,7 +13,7 @@ use Rattle.register.specs.States.{State, Kept, empty_state}
 use Rattle.rulings.specs.Attributes.{if_attribute}
 use Rattle.scheme.specs.Commands.{Command}
 use Rattle.scheme_tape.specs.Reading.{SchemeRead}
-use Rattle.script.specs.Calls.{Call, nothing, scheme, list, board, records, filter, «open», request, rule, state, Says, Wanting}
+use Rattle.script.specs.Calls.{Call, nothing, scheme, list, board, records, filter, «open», request, rule, state, check, Says, Wanting}
 use Rattle.script.specs.Finds.{Finds}
 use Rattle.model.specs.Kiosk.{kiosk_counts}
 use Rattle.setups.specs.Making.{kiosk_kept, WantsRecords}
@@ -19,9 +23,10 @@ use Rattle.setups.specs.declared.setup.StoreChoice.{StoreChoice}
 use Rattle.setups.specs.declared.setup.StoreChoice.TheVariants.{Board, List as Records}
 use Rattle.stores.specs.RecordLists.{if_list}
 use Rattle.kiosk.specs.declared.answer.Reply.{Reply}
-use Rattle.kiosk.specs.declared.answer.Reply.TheVariants.{Accepted, Listing, StoreChosen, FilterChosen as Filtering, Opened as Open, Done, Ruled, State as Showing}
+use Rattle.kiosk.specs.declared.answer.Reply.TheVariants.{Accepted, Listing, StoreChosen, FilterChosen as Filtering, Opened as Open, Done, Ruled, State as Showing, Checked as Passing}
 use Rattle.kiosk.specs.declared.answer.Refusal.{Refusal}
-use Rattle.kiosk.specs.declared.answer.Refusal.TheVariants.{Fault, NoRegister, BadLine}
+use Rattle.kiosk.specs.declared.answer.Refusal.TheVariants.{Fault, Flawed, NoRegister, BadLine}
+use Rattle.kiosk.specs.Checking.{Shows}
 use Rattle.kiosk.specs.Desks.{Made, made_of}
 use Rattle.kiosk.specs.declared.session.Session.{Session}
 
@@ -58,6 +63,10 @@ pub data Said : Type 0 where
   ruling : Bool → Said
   -- what the register holds
   holds : State → Said
+  -- the certificate is accepted: it holds after every request
+  safe : Said
+  -- the certificate is refused for this flaw; the entry is that of a name whose stamp is not listed
+  flawed : (layer number place : ℕ) → Flaw → (entry : Option Stamp) → Said
   no_register : Said
   bad_line : Said
 
@@ -78,6 +87,13 @@ shown k = said_of (λ m. holds m.state) k.made
 abbrev pub ruling_of : Kiosk → (row column right : ℕ) → Said
 ruling_of k s o r = said_of (λ m. ruling (ruled m.kept.says m.state.protection s o r)) k.made
 
+-- what a refusal says
+abbrev pub refusal_said : Refusal → Said
+refusal_said (Fault f) = fault (layer_number f.layer) (reason_number f.reason) f.place
+refusal_said (Flawed f flaw entry) = flawed (layer_number f.layer) (reason_number f.reason) f.place flaw entry
+refusal_said NoRegister = no_register
+refusal_said BadLine = bad_line
+
 -- What an answer says, beside the session in which it is given.
 abbrev pub said : Kiosk → Option (Result Reply Refusal) → Said
 said k None = silence
@@ -89,9 +105,8 @@ said k (Some (Ok Open)) = opened
 said k (Some (Ok (Done n))) = done n
 said k (Some (Ok (Ruled allowed))) = ruling allowed
 said k (Some (Ok Showing)) = shown k
-said k (Some (Err (Fault f))) = fault (layer_number f.layer) (reason_number f.reason) f.place
-said k (Some (Err NoRegister)) = no_register
-said k (Some (Err BadLine)) = bad_line
+said k (Some (Ok Passing)) = safe
+said k (Some (Err refusal)) = refusal_said refusal
 
 -- A call is answered by what there is to say of what it hands out, or by its refusal.
 abbrev pub told : {X : Type 0} → (X → Said) → Answers.Answer X → Said
@@ -162,6 +177,16 @@ Opened before tape answer after = Carries (λ kept old. Opens kept tape) (λ tt.
 abbrev pub Asked : Kiosk → (command : ℕ) → (names : List ℕ) → Said → Kiosk → Type 0
 Asked before c names answer after = Carries (λ kept old. Requested kept old c names) done before before.made answer after
 
+-- What a check on a register is answered: that the certificate is accepted; or the refusal, with a witness.
+pub data CheckedOn (m : Made) (certificate bans : List ℕ) (answer : Said) : Type 0 where
+  passed : Checked m.kept m.state certificate bans (Answers.accepted tt) → answer ≡ safe → CheckedOn m certificate bans answer
+  failed : (f : Faulty) (refusal : Refusal) → Checked m.kept m.state certificate bans (Answers.refusal f) → Shows m.kept m.state certificate bans f refusal → answer ≡ refusal_said refusal → CheckedOn m certificate bans answer
+
+-- the answer of a check, if there is a register; else that there is none
+abbrev pub ChecksOn : Option Made → (certificate bans : List ℕ) → Said → Type 0
+ChecksOn None certificate bans answer = answer ≡ no_register
+ChecksOn (Some m) certificate bans answer = CheckedOn m certificate bans answer
+
 -- What each call is answered. No call is what an unreadable line has.
 abbrev pub Answered : Kiosk → Option Call → Said → Kiosk → Type 0
 Answered before None answer after = (answer ≡ bad_line) × (after ≡ before)
@@ -175,6 +200,7 @@ Answered before (Some («open» tape)) answer after = Opened before tape answer 
 Answered before (Some (request c names)) answer after = Asked before c names answer after
 Answered before (Some (rule s o r)) answer after = (answer ≡ ruling_of before s o r) × (after ≡ before)
 Answered before (Some state) answer after = (answer ≡ shown before) × (after ≡ before)
+Answered before (Some (check certificate bans)) answer after = ChecksOn before.made certificate bans answer × (after ≡ before)
 
 -- A line is answered as the call that it says, if it says one.
 pub record LineAnswered (before : Kiosk) (line : List ℕ) (answer : Said) (after : Kiosk) : Type 0 where
@@ -194,6 +220,7 @@ CallWants before («open» tape) = ⊥
 CallWants before (request c names) = ⊥
 CallWants before (rule s o r) = ⊥
 CallWants before state = ⊥
+CallWants before (check certificate bans) = ⊥
 
 -- Memory is wanted for a line: for the bytes that it writes, or for the call that it says.
 pub data LineWants (before : Kiosk) (line : List ℕ) : Type 0 where

@@ -2,9 +2,10 @@
 ghost use Rattle.std.specs.Prelude.{◌≡◌};
 ghost use Rattle.kiosk.specs.declared.answer.Refusal.{Refusal};
 
+use checker::flaw::Flaw;
 use model::fault::Fault;
 use model::mask::Mask;
-use model::stamp::Attribute;
+use model::stamp::{Attribute, Stamp};
 use setups::setup::StoreChoice;
 
 // What is printed of the register itself is not copied: a listing and a state are named, and printed from the session.
@@ -21,11 +22,19 @@ pub enum Reply {
     // Whether the ruling allows the right.
     Ruled(bool),
     State,
+    // The certificate is accepted.
+    Checked,
 }
 
 #[derive(Clone, Copy)]
 pub enum Refusal {
     Fault(Fault),
+    // A certificate is refused for a flaw. Beside a name whose stamp is not listed stands its entry.
+    Flawed {
+        fault: Fault,
+        flaw: Flaw,
+        entry: Option<Stamp>,
+    },
     // What is asked for takes a register, and no scheme was accepted yet.
     NoRegister,
     BadLine,

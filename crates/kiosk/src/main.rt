@@ -3,6 +3,7 @@
 #![tactic(auto)]
 
 mod answer;
+mod checking;
 mod desk;
 mod session;
 mod state;

@@ -1,16 +1,19 @@
 // What the kiosk keeps from line to line, and what it answers.
 ghost use Rattle.std.specs.Prelude.{◌≡◌, Some, MatchResult};
 ghost use Rattle.script.specs.Calls.{call_of};
-ghost use Rattle.kiosk.specs.Sessions.{kiosk_of, said, fresh, listed, shown, ruling_of, Taken, BoardChosen, ListChosen, FilterChosen, Opened, Asked, WantsList, Answered, CallWants, LineAnswered, LineWants};
+ghost use Rattle.kiosk.specs.Sessions.{kiosk_of, said, fresh, listed, shown, ruling_of, Taken, BoardChosen, ListChosen, FilterChosen, Opened, Asked, ChecksOn, WantsList, Answered, CallWants, LineAnswered, LineWants};
 
 use crate::answer::{Answer, Refusal, Reply};
+use crate::checking::show_fault;
 use crate::desk::Desk;
+use checker::check::check;
 use model::mask::{Mask, Right};
 use model::name::Name;
+use model::scales::KioskScales;
 use model::stamp::Attribute;
 use scheme_tape::reader::read_scheme;
 use script::{Call, ReadError, read_line};
-use setups::making::{KioskScales, make_register};
+use setups::making::make_register;
 use setups::setup::{Setup, StoreChoice};
 use setups::size::ListSize;
 use std::alloc::{AllocError, Global};
@@ -123,6 +126,18 @@ impl<'a> Session<'a> {
         }
     }
 
+    fn check(&self, certificate: &[u8], bans: &[u8]) -> Answer
+        ensures { ChecksOn (kiosk_of self.now).made certificate.now bans.now (said (kiosk_of self.now) (Some result)) }
+    {
+        let Desk::Made(register, _) = &self.desk else {
+            return Err(Refusal::NoRegister);
+        };
+        match check(register, certificate, bans) {
+            Ok(()) => Ok(Reply::Checked),
+            Err(fault) => Err(show_fault(register, certificate, bans, fault)),
+        }
+    }
+
     // Blank lines and remarks have no answer.
     fn answer(
         mut self,
@@ -148,6 +163,9 @@ impl<'a> Session<'a> {
             Call::Request { command, names } => self.request(command, names.as_slice()),
             Call::Rule { row, column, right } => self.rule(row, column, right),
             Call::State => self.show(),
+            Call::Check { certificate, bans } => {
+                self.check(certificate.as_slice(), bans.as_slice())
+            }
         };
         Ok((self, Some(answer)))
     }

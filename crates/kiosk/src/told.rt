@@ -7,6 +7,7 @@ use crate::answer::{Refusal, Reply};
 use crate::desk::Desk;
 use crate::session::Session;
 use crate::state::StateLines;
+use flaw_words::flaw::FlawWords;
 use std::fmt;
 use words::InWords;
 use words::listing::Listings;
@@ -50,6 +51,10 @@ impl fmt::Display for Told<'_, '_> {
                 Desk::Bare(_) => write!(f, "{}", Refusal::NoRegister),
                 Desk::Made(register, _) => write!(f, "{}", StateLines(register)),
             },
+            Reply::Checked => write!(
+                f,
+                "ok -- the certificate is accepted: it holds after every request"
+            ),
         }
     }
 }
@@ -60,6 +65,14 @@ impl fmt::Display for Refusal {
     fn fmt<W: fmt::Write>(&self, f: &mut fmt::Formatter<W>) -> fmt::Result {
         match self {
             Refusal::Fault(fault) => write!(f, "{}", InWords(*fault)),
+            Refusal::Flawed { fault, flaw, entry } => {
+                let fault = InWords(*fault);
+                let flaw = FlawWords {
+                    flaw: *flaw,
+                    entry: *entry,
+                };
+                write!(f, "{fault}: {flaw}")
+            }
             Refusal::NoRegister => write!(f, "error no register"),
             Refusal::BadLine => write!(f, "error bad line"),
         }

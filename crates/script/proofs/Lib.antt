@@ -7,4 +7,5 @@ mod Parting
 mod Refusing
 mod Saying
 mod Scanning
+mod Siding
 mod Spelling

@@ -7,11 +7,13 @@ use Rattle.script.specs.Words.{Blanks, Begins, Alone, past_blanks, front_word, p
 use Rattle.script.specs.Hex.{Spells}
 use Rattle.script.specs.Settings.{Sized, Filters}
 use Rattle.script.specs.Series.{Series}
+use Rattle.script.specs.Sides.{SpellsBoth}
 use Rattle.script.specs.Keywords.{spelling}
-use Rattle.script.specs.Calls.{Call, nothing, scheme, list, board, records, filter, «open», request, rule, state, Asks, asks_scheme, asks_list, asks_board, asks_records, asks_filter, asks_open, asks_request, asks_rule, asks_state, Says, blank_line, remark_line, call_line, OneCall, silent}
+use Rattle.script.specs.Calls.{Call, nothing, scheme, list, board, records, filter, «open», request, rule, state, check, Asks, asks_scheme, asks_list, asks_board, asks_records, asks_filter, asks_open, asks_request, asks_rule, asks_state, asks_check, Says, blank_line, remark_line, call_line, OneCall, silent}
 use Rattle.script.proofs.Spelling.{one_spelling}
 use Rattle.script.proofs.Giving.{one_size, board_or_list, one_filter}
 use Rattle.script.proofs.Leading.{one_series}
+use Rattle.script.proofs.Siding.{one_both}
 use Rattle.script.proofs.Parting.{margin, margin_blanks, margin_whole, past_margin, blanks_past, past_none, begins_with, begun_by, word_is, one_beginning}
 
 -- what each keyword asks for, read backward
@@ -24,6 +26,7 @@ Asked Keyword.Open rest call = (bytes : List ℕ) × Spells rest bytes × (call 
 Asked Keyword.Request rest call = (command : ℕ) × (names : List ℕ) × Series rest (command ∷ names) × (call ≡ request command names)
 Asked Keyword.Rule rest call = (s : ℕ) × (o : ℕ) × (r : ℕ) × Series rest (s ∷ o ∷ r ∷ []) × (call ≡ rule s o r)
 Asked Keyword.State rest call = Blanks rest × (call ≡ state)
+Asked Keyword.Check rest call = (xs : List ℕ) × (ys : List ℕ) × SpellsBoth rest xs ys × (call ≡ check xs ys)
 
 pub asked : {key : Keyword} {rest : List ℕ} {call : Call} → Asks key rest call → Asked key rest call
 asked (asks_scheme {rest} {bytes} s) = (bytes, s, refl)
@@ -35,6 +38,7 @@ asked (asks_open {rest} {bytes} s) = (bytes, s, refl)
 asked (asks_request {rest} {names} {command} s) = (command, names, s, refl)
 asked (asks_rule {rest} {s} {o} {r} n) = (s, o, r, n, refl)
 asked (asks_state rest bs) = (bs, refl)
+asked (asks_check {rest} {certificate} {bans} s) = (certificate, bans, s, refl)
 
 one_asked : {key : Keyword} {rest : List ℕ} {c d : Call} → Asks key rest c → Asks key rest d → c ≡ d
 one_asked (asks_scheme s) q = let other = asked q in ap scheme (one_spelling _ _ _ s other.1) ∙ sym other.2
@@ -58,6 +62,11 @@ one_asked (asks_rule n) q =
     let is = other.4 in
     cc
 one_asked (asks_state rest bs) q = sym (asked q).1
+one_asked (asks_check s) q =
+    let other = asked q in
+    let same = one_both s other.2 in
+    let is = other.3 in
+    cc
 
 -- the keyword that is spelt so
 abbrev spelt_so : List ℕ → Keyword
@@ -68,7 +77,8 @@ spelt_so word =
     (cond (bytes_eq word (codes "filter")) Keyword.Filter
     (cond (bytes_eq word (codes "open")) Keyword.Open
     (cond (bytes_eq word (codes "request")) Keyword.Request
-    (cond (bytes_eq word (codes "rule")) Keyword.Rule Keyword.State))))))
+    (cond (bytes_eq word (codes "rule")) Keyword.Rule
+    (cond (bytes_eq word (codes "state")) Keyword.State Keyword.Check)))))))
 
 spelt_back : (key : Keyword) → spelt_so (spelling key) ≡ key
 spelt_back Keyword.Scheme = refl
@@ -79,6 +89,7 @@ spelt_back Keyword.Open = refl
 spelt_back Keyword.Request = refl
 spelt_back Keyword.Rule = refl
 spelt_back Keyword.State = refl
+spelt_back Keyword.Check = refl
 
 -- two keywords are not spelt alike
 one_key : (j k : Keyword) → spelling j ≡ spelling k → j ≡ k
@@ -94,6 +105,7 @@ loud Keyword.Open rest = refl
 loud Keyword.Request rest = refl
 loud Keyword.Rule rest = refl
 loud Keyword.State rest = refl
+loud Keyword.Check rest = refl
 
 -- nor is one empty
 some : (word : List ℕ) → silent (word ++ []) ≡ false → 0 < length word

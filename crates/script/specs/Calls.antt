@@ -2,12 +2,13 @@
 use Rattle.std.specs.Prelude.{◌≡◌, ℕ, Bool, true, List, [], ◌∷◌, ◌++◌, Some, None, vec_items, codes, Option, ◌==◌}
 use Rattle.script.specs.declared.keyword.Keyword.{Keyword}
 use Rattle.script.specs.declared.line.Call.{Call as Asked}
-use Rattle.script.specs.declared.line.Call.TheVariants.{Scheme, List as Listing, StoreBoard, StoreList, Filter, Open, Request, Rule, State}
+use Rattle.script.specs.declared.line.Call.TheVariants.{Scheme, List as Listing, StoreBoard, StoreList, Filter, Open, Request, Rule, State, Check}
 use Rattle.script.specs.Words.{Blanks, Begins, Alone}
 use Rattle.script.specs.Keywords.{spelling}
 use Rattle.script.specs.Hex.{Spells, Opens}
 use Rattle.script.specs.Settings.{Sized, Filters}
 use Rattle.script.specs.Series.{Series, Named}
+use Rattle.script.specs.Sides.{SpellsBoth, OpensEither}
 
 -- What a line can call for. To call for `nothing` is to be passed over.
 pub data Call : Type 0 where
@@ -27,6 +28,8 @@ pub data Call : Type 0 where
   -- A right is asked about, in the cell of a row and a column.
   rule : (row column right : ℕ) → Call
   state : Call
+  -- The tapes of a certificate and of bans are checked.
+  check : (certificate bans : List ℕ) → Call
 
 -- What a keyword asks for, by the text after it.
 pub data Asks : Keyword → List ℕ → Call → Type 0 where
@@ -48,6 +51,8 @@ pub data Asks : Keyword → List ℕ → Call → Type 0 where
   asks_rule : {rest : List ℕ} {s o r : ℕ} → Series rest (s ∷ o ∷ r ∷ []) → Asks Keyword.Rule rest (rule s o r)
   -- `state` stands alone.
   asks_state : (rest : List ℕ) → Blanks rest → Asks Keyword.State rest state
+  -- `check` asks for a check of the two tapes that are spelt after it. Either may have no bytes.
+  asks_check : {rest certificate bans : List ℕ} → SpellsBoth rest certificate bans → Asks Keyword.Check rest (check certificate bans)
 
 -- `Says line call`: this is what the line says. A line of which these rules show no call is unreadable.
 pub data Says : List ℕ → Call → Type 0 where
@@ -62,8 +67,8 @@ pub data Says : List ℕ → Call → Type 0 where
 abbrev pub OneCall : Type 0
 OneCall = (line : List ℕ) (c d : Call) → Says line c → Says line d → c ≡ d
 
--- Memory is wanted for the bytes of a scheme or of an opening, if there is a first one, for the names of a request, if
--- there are a command and a first one, and for no other call.
+-- Memory is wanted for the bytes of a scheme, of an opening or of the tapes of a check, if there is a first one, for the
+-- names of a request, if there are a command and a first one, and for no other call.
 abbrev pub Wants : Keyword → List ℕ → Type 0
 Wants Keyword.Scheme rest = Opens rest
 Wants Keyword.List rest = ⊥
@@ -73,6 +78,7 @@ Wants Keyword.Open rest = Opens rest
 Wants Keyword.Request rest = Named rest
 Wants Keyword.Rule rest = ⊥
 Wants Keyword.State rest = ⊥
+Wants Keyword.Check rest = OpensEither rest
 
 -- Memory is wanted for the call that this line begins.
 pub record Wanting (line : List ℕ) : Type 0 where
@@ -92,6 +98,7 @@ asked_call (Open tape) = «open» (vec_items tape)
 asked_call (Request command names) = request command (vec_items names)
 asked_call (Rule row column right) = rule row column right
 asked_call State = state
+asked_call (Check certificate bans) = check (vec_items certificate) (vec_items bans)
 
 abbrev pub call_of : Option Asked → Call
 call_of None = nothing

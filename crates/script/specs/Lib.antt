@@ -5,5 +5,6 @@ pub mod Hex
 pub mod Numbers
 pub mod Series
 pub mod Settings
+pub mod Sides
 pub mod Keywords
 pub mod Calls

@@ -13,6 +13,7 @@ pub(crate) enum Keyword {
     Request,
     Rule,
     State,
+    Check,
 }
 
 // A word that is none has no error of its own, so this is no `TryFrom`.
@@ -28,6 +29,7 @@ pub(crate) fn find_keyword(word: &[u8]) -> Option<Keyword>
         b"request" => Some(Keyword::Request),
         b"rule" => Some(Keyword::Rule),
         b"state" => Some(Keyword::State),
+        b"check" => Some(Keyword::Check),
         _ => None,
     }
 }

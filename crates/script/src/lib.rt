@@ -8,6 +8,7 @@ mod line;
 mod number;
 mod series;
 mod settings;
+mod sides;
 mod words;
 
 pub use error::ReadError;

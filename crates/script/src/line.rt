@@ -10,6 +10,7 @@ use crate::keyword::{Keyword, find_keyword};
 use crate::number::first_number;
 use crate::series::{read_series, three_numbers};
 use crate::settings::{filter_parts, is_board, list_size};
+use crate::sides::read_sides;
 use crate::words::{only_blanks, past_blanks, split_word};
 use std::alloc::Global;
 
@@ -31,6 +32,8 @@ pub enum Call {
     // A right is asked about, in the cell of a row and a column.
     Rule { row: u8, column: u8, right: u8 },
     State,
+    // The tapes of a certificate and of bans, to be checked.
+    Check { certificate: Vec<u8>, bans: Vec<u8> },
 }
 
 // A call that takes no words.
@@ -74,6 +77,13 @@ fn read_rule(rest: &[u8]) -> Result<Call, ReadError>
     Ok(Call::Rule { row, column, right })
 }
 
+fn read_check(heap: Global, rest: &[u8]) -> Result<Call, ReadError>
+    ensures { Reads asked_call (Asks Keyword.Check rest.now) (Wants Keyword.Check rest.now) result }
+{
+    let (certificate, bans) = read_sides(heap, rest)?;
+    Ok(Call::Check { certificate, bans })
+}
+
 // What a keyword asks for with `rest` after it.
 fn read_call(heap: Global, key: Keyword, rest: &[u8]) -> Result<Call, ReadError>
     ensures { Reads asked_call (Asks key rest.now) (Wants key rest.now) result }
@@ -87,6 +97,7 @@ fn read_call(heap: Global, key: Keyword, rest: &[u8]) -> Result<Call, ReadError>
         Keyword::Request => read_request(heap, rest),
         Keyword::Rule => read_rule(rest),
         Keyword::State => lone_call(rest, Call::State),
+        Keyword::Check => read_check(heap, rest),
     }
 }
 
@@ -97,8 +108,8 @@ fn is_silent(text: &[u8]) -> bool
     matches!(text, [] | [b'#', ..])
 }
 
-// What a line calls for, if it is no blank line and no remark. Memory can be wanting only for the bytes of a tape and
-// for the names of a request.
+// What a line calls for, if it is no blank line and no remark. Memory can be wanting only for the bytes of tapes and for
+// the names of a request.
 #[tactic(auto, using(crate::proofs::Saying::one_call))]
 pub fn read_line(heap: Global, line: &[u8]) -> Result<Option<Call>, ReadError>
     ensures said { Reads call_of (Says line.now) (Wanting line.now) result }

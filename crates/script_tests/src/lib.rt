@@ -21,6 +21,7 @@ mod tests {
             Ok(Some(Call::Request { .. })) => "request",
             Ok(Some(Call::Rule { .. })) => "rule",
             Ok(Some(Call::State)) => "state",
+            Ok(Some(Call::Check { .. })) => "check",
             Err(ReadError::Unreadable) => "unreadable",
             Err(ReadError::OutOfMemory(_)) => "out of memory",
         }
@@ -43,6 +44,11 @@ mod tests {
 
     fn is_rule(heap: Global, line: &[u8], question: (u8, u8, u8)) -> bool {
         matches!(read_line(heap, line), Ok(Some(Call::Rule { row, column, right })) if (row, column, right) == question)
+    }
+
+    fn is_check(heap: Global, line: &[u8], first: &[u8], second: &[u8]) -> bool {
+        let call = read_line(heap, line);
+        matches!(&call, Ok(Some(Call::Check { certificate, bans })) if certificate.as_slice() == first && bans.as_slice() == second)
     }
 
     fn is_list_of(heap: Global, line: &[u8], size: u32) -> bool {
@@ -116,6 +122,41 @@ mod tests {
         assert!(rt; is_rule(heap, b"rule 1 2 3", (1, 2, 3)));
         assert!(rt; is_rule(heap, b" rule\t255 000 \t 0016\r", (255, 0, 16)));
         Ok(())
+    }
+
+    #[test]
+    fn checks(rt: HostRuntime) -> Result<(), Fail> {
+        let heap = rt.alloc();
+        assert!(rt; is_check(heap, b"check /", &[], &[]));
+        assert!(rt; is_check(heap, b"check 50fF/", &[80, 255], &[]));
+        assert!(rt; is_check(heap, b" check\t/ 60 0b \r", &[], &[96, 11]));
+        assert!(rt; is_check(heap, b"check 51 00/60", &[81, 0], &[96]));
+        assert!(rt; is_check(heap, b"check 51\t / \r 6001", &[81], &[96, 1]));
+        Ok(())
+    }
+
+    #[test]
+    fn checks_that_cannot_be_read(rt: HostRuntime) -> Result<(), Fail> {
+        all_are(
+            &rt,
+            rt.alloc(),
+            "unreadable",
+            &[
+                "check",
+                "check 50",
+                "check 50 60",
+                "check 50/60/",
+                "check 50//60",
+                "check 5/060",
+                "check 5 0/60",
+                "check 50/6",
+                "check 50/6 0",
+                "check x/60",
+                "check 50/x",
+                "check/",
+                "Check /",
+            ],
+        )
     }
 
     #[test]

@@ -1,5 +1,5 @@
 -- The register that a setup and an accepted scheme make, for the kiosk's scales.
-use Rattle.std.specs.Prelude.{◌≡◌, ℕ, Bool, List, ⊤}
+use Rattle.std.specs.Prelude.{◌≡◌, ℕ, List, ⊤}
 use Rattle.model.specs.Kiosk.{kiosk_counts, kiosk_covers}
 use Rattle.register.specs.States.{Kept}
 use Rattle.rulings.specs.Piles.{pile_says}

@@ -9,14 +9,12 @@ use crate::setup::Setup;
 use crate::store::KioskStore;
 use model::labels::Labels;
 use model::ladder::Ladder;
+use model::scales::KioskScales;
 use register::register::Register;
 use rulings::pile::{FourFilters, four_filters};
 use scheme_tape::lawful::LawfulScheme;
 use std::alloc::{AllocError, Global};
 use stores::board::Board;
-
-// The grade and attribute 3 are ladders, 1 and 2 are labels.
-pub type KioskScales = (Ladder, Labels, Labels, Ladder);
 
 pub type KioskPile = FourFilters<Ladder, Labels, Labels, Ladder>;
 

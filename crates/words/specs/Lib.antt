@@ -3,5 +3,6 @@ pub mod Listings
 pub mod Masks
 pub mod Roles
 pub mod Sentences
+pub mod Stamps
 pub mod States
 pub mod Words

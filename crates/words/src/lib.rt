@@ -6,6 +6,7 @@ pub mod kind;
 pub mod listing;
 pub mod mask;
 pub mod role;
+pub mod stamp;
 pub mod state;
 pub mod step;
 pub mod test;

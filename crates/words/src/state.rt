@@ -1,47 +1,13 @@
 // The lines in which a state is printed: an entry, a cell, and the count.
 ghost use Rattle.std.specs.Prelude.{Some};
-ghost use Rattle.words.specs.States.{attribute_word, attribute_words, entry_line, cell_line, count_line};
+ghost use Rattle.words.specs.States.{entry_line, cell_line, count_line};
 
 use crate::InWords;
 use crate::mask::MaskDigits;
 use model::mask::Mask;
 use model::name::Name;
-use model::stamp::{PerAttribute, Stamp, Value};
+use model::stamp::Stamp;
 use std::fmt;
-
-// A value in decimal, and null as `FF`.
-#[derive(Clone, Copy)]
-struct AttributeWord(Option<Value>);
-
-impl fmt::Display for AttributeWord {
-    ghost output = { λ a. Some (attribute_word a.0) };
-
-    fn fmt<W: fmt::Write>(&self, f: &mut fmt::Formatter<W>) -> fmt::Result {
-        match self.0 {
-            None => write!(f, "FF"),
-            Some(value) => write!(f, "{value}"),
-        }
-    }
-}
-
-#[derive(Clone, Copy)]
-struct AttributeWords(PerAttribute<Option<Value>>);
-
-impl fmt::Display for AttributeWords {
-    ghost output = { λ a. Some (attribute_words a.0) };
-
-    fn fmt<W: fmt::Write>(&self, f: &mut fmt::Formatter<W>) -> fmt::Result {
-        let [a0, a1, a2, a3] = self.0;
-        write!(
-            f,
-            "{} {} {} {}",
-            AttributeWord(a0),
-            AttributeWord(a1),
-            AttributeWord(a2),
-            AttributeWord(a3)
-        )
-    }
-}
 
 // What stands under a name; where no entry does, there is no line.
 #[derive(Clone, Copy)]
@@ -57,11 +23,7 @@ impl fmt::Display for EntryLine {
         let name = self.name;
         match self.entry {
             None => Ok(()),
-            Some(stamp) => {
-                let kind = InWords(stamp.kind);
-                let attributes = AttributeWords(stamp.attributes);
-                writeln!(f, "entry {name} {kind} {attributes}")
-            }
+            Some(stamp) => writeln!(f, "entry {name} {}", InWords(stamp)),
         }
     }
 }
