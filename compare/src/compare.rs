@@ -11,6 +11,7 @@ use std::sync::mpsc::{self, RecvTimeoutError};
 use std::thread;
 use std::time::{Duration, Instant};
 
+use crate::calls::Tapes;
 use crate::generator::{self, Manner};
 use crate::session::{self, Answer, Answered};
 use crate::worked::{self, Worked};
@@ -337,6 +338,66 @@ pub fn check_seeds(program: &Program, first: u64, time: Duration) -> Result<u64,
         seed = seed.wrapping_add(1);
     }
     Ok(seed.wrapping_sub(first))
+}
+
+/// How many calls the C program is given at a time.
+const CALLS: usize = 400;
+
+/// Hands the tapes of the seeds from `first` on to a program that calls the C library, for so long, and says how many
+/// calls it made.
+pub fn check_calls(program: &Program, first: u64, time: Duration) -> Result<u64, Report> {
+    let end = Instant::now() + time;
+    let mut seeds = (0..).map(|step| first.wrapping_add(step));
+    let mut count = 0;
+    while Instant::now() < end {
+        let mut calls = Vec::new();
+        while calls.len() < CALLS {
+            calls.extend(seeds.next().map(generator::calls).unwrap_or_default());
+        }
+        check_batch(program, &calls)?;
+        count += calls.len() as u64;
+    }
+    Ok(count)
+}
+
+fn check_batch(program: &Program, calls: &[Tapes]) -> Result<(), Report> {
+    let lines: Vec<String> = calls.iter().map(Tapes::line).collect();
+    let script = lines
+        .iter()
+        .flat_map(|it| [it.as_str(), "\n"])
+        .collect::<String>();
+    let report = |script: &str, failure| Report {
+        what: "calls of the C library".to_owned(),
+        script: script.as_bytes().to_vec(),
+        failure,
+    };
+    let output = program
+        .output(script.as_bytes(), Feed::Input)
+        .map_err(|failure| report(&script, failure))?;
+    let mut printed = Printed::new(&output).lines;
+    for ((line, tapes), number) in lines.iter().zip(calls).zip(1..) {
+        let wanted = tapes.answer().to_string();
+        let given = printed.next();
+        if given.as_deref() != Some(&wanted) {
+            let difference = Difference {
+                line: Some((number, "one of the calls".to_owned())),
+                wanted: Some(wanted),
+                given,
+            };
+            return Err(report(line, Failure::Differs(Box::new(difference))));
+        }
+    }
+    match printed.next() {
+        None => Ok(()),
+        more => {
+            let difference = Difference {
+                line: None,
+                wanted: None,
+                given: more,
+            };
+            Err(report(&script, Failure::Differs(Box::new(difference))))
+        }
+    }
 }
 
 #[cfg(test)]

@@ -30,6 +30,14 @@ impl Right {
     pub fn new(number: u8) -> Option<Self> {
         (number < Self::COUNT).then_some(Right(number))
     }
+
+    pub fn all() -> impl Iterator<Item = Self> {
+        (0..Self::COUNT).map(Right)
+    }
+
+    pub fn number(self) -> u8 {
+        self.0
+    }
 }
 
 /// A set of rights.
@@ -57,6 +65,20 @@ impl Mask {
 
     pub fn is_empty(self) -> bool {
         self.0 == 0
+    }
+
+    pub fn bits(self) -> u16 {
+        self.0
+    }
+
+    /// The rights of both.
+    pub fn and(self, other: Mask) -> Self {
+        Mask(self.0 | other.0)
+    }
+
+    /// Whether the other has every right of this one.
+    pub fn is_within(self, other: Mask) -> bool {
+        self.0 & !other.0 == 0
     }
 }
 
@@ -152,13 +174,25 @@ impl fmt::Display for Kind {
     }
 }
 
+/// An entry, apart from its name.
 #[derive(Clone, Copy, Debug, PartialEq, Eq)]
 pub struct Entry {
     pub kind: Kind,
     pub attributes: Attributes,
 }
 
+/// What sort of entry it is, which is all that there is of an entry besides its name.
+pub type Stamp = Entry;
+
 impl Entry {
+    /// An entry as it is created.
+    pub fn created(is_card: bool) -> Self {
+        Entry {
+            kind: if is_card { Kind::Card } else { Kind::Thing },
+            attributes: Attributes::default(),
+        }
+    }
+
     pub fn is_card(&self) -> bool {
         self.kind == Kind::Card
     }

@@ -7,7 +7,10 @@ use std::fmt;
 pub enum Layer {
     SchemeTape = 1,
     OpeningTape = 2,
+    CertificateTape = 3,
+    BanTape = 4,
     Register = 5,
+    Checker = 6,
     Parts = 7,
 }
 
@@ -32,6 +35,9 @@ pub enum Rule {
     ThingAsCard = 14,
     TestFails = 15,
     PassesLimit = 16,
+    NotContained = 17,
+    NotClosed = 18,
+    BanMet = 19,
     ListSize = 23,
     FilterAttribute = 24,
 }

@@ -6,10 +6,16 @@
 //! runs a command's steps on a copy of it, and counts the cells afterwards.
 //!
 //! From the bottom up: [`fault`] has the refusals, [`entry`], [`scale`] and [`store`] what a state is made of, [`tape`]
-//! the orders, [`scheme`] and [`opening`] the two tapes, [`ruling`] and [`register`] the register, [`script`] the lines
-//! and [`session`] their answers. [`generator`] writes scripts with a [`dice`], [`statistics`] counts what they come to,
+//! the orders, [`scheme`] and [`opening`] two of the tapes, [`ruling`] and [`register`] the register, [`certificate`]
+//! and [`ban`] the other two tapes, [`casting`] and [`check`] the check, [`calls`] the C library's call, [`script`] the lines and [`session`] their
+//! answers. [`generator`] writes scripts with a [`dice`], [`statistics`] counts what they come to,
 //! and [`mod@compare`] puts the same scripts to a program, after those that [`worked`] has with their answers.
 
+pub mod ban;
+pub mod calls;
+pub mod casting;
+pub mod certificate;
+pub mod check;
 pub mod compare;
 pub mod dice;
 pub mod entry;

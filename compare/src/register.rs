@@ -2,12 +2,13 @@
 
 use std::collections::BTreeMap;
 
-use crate::entry::{Attribute, Attributes, Entry, Kind, Name, Right};
+use crate::check;
+use crate::entry::{Attribute, Entry, Mask, Name, Right};
 use crate::fault::{Fault, Layer, Rule};
 use crate::opening;
 use crate::ruling::Filters;
 use crate::scale::Value;
-use crate::scheme::{Command, Parameter, Place, Scheme, Step, Test};
+use crate::scheme::{Command, Parameter, Place, Scheme, Sight, Step};
 use crate::store::{Cells, Store};
 
 /// Which entry stands under which name, and the access matrix.
@@ -52,14 +53,8 @@ impl Protection {
         }
     }
 
-    fn create(&mut self, name: Name, kind: Kind) {
-        self.entries.insert(
-            name,
-            Entry {
-                kind,
-                attributes: Attributes::default(),
-            },
-        );
+    fn create(&mut self, name: Name, entry: Entry) {
+        self.entries.insert(name, entry);
         self.cells.clear(name);
     }
 
@@ -152,6 +147,11 @@ impl Register {
         })
     }
 
+    /// Checks the certificate and the bans of two tapes on what the register holds.
+    pub fn check(&self, certificate: &[u8], bans: &[u8]) -> Result<(), Fault> {
+        check::check(&self.scheme, &self.state.protection, certificate, bans)
+    }
+
     /// Whether the entry `row` has the right on the entry `column`, and every filter lets it.
     pub fn rule(&self, row: u8, column: u8, right: u8) -> bool {
         self.is_ruled(row, column, right).unwrap_or(false)
@@ -222,46 +222,18 @@ impl Request<'_> {
     }
 
     fn check_tests(&self, before: &Protection) -> Result<(), Fault> {
+        let seen = Seen {
+            request: self,
+            state: before,
+        };
         match self
             .command
             .tests
             .iter()
-            .position(|test| !self.passes(test, before))
+            .position(|test| !test.passes(&seen))
         {
             Some(place) => Err(refused(Rule::TestFails, place)),
             None => Ok(()),
-        }
-    }
-
-    fn passes(&self, test: &Test, before: &Protection) -> bool {
-        let value_of = |parameter, attribute| {
-            before
-                .entry(self.name(parameter))
-                .and_then(|entry| entry.attributes.get(attribute))
-        };
-        match *test {
-            Test::Has { right, place } => {
-                let (row, column) = self.cell(place);
-                before.cells.get(row, column).has(right)
-            }
-            Test::Is {
-                parameter,
-                attribute,
-                value,
-            } => value_of(parameter, attribute) == value,
-            Test::IsNot {
-                parameter,
-                attribute,
-                value,
-            } => value_of(parameter, attribute) != value,
-            Test::Covers {
-                one,
-                attribute,
-                other,
-            } => match (before.entry(self.name(one)), before.entry(self.name(other))) {
-                (Some(one), Some(other)) => one.covers(attribute, other),
-                _ => false,
-            },
         }
     }
 
@@ -281,14 +253,27 @@ impl Request<'_> {
                 value,
             } => state.set(self.name(parameter), attribute, value),
             Step::Create(parameter) => {
-                let kind = if self.command.parameters.is_card(parameter) {
-                    Kind::Card
-                } else {
-                    Kind::Thing
-                };
-                state.create(self.name(parameter), kind);
+                let is_card = self.command.parameters.is_card(parameter);
+                state.create(self.name(parameter), Entry::created(is_card));
             }
             Step::Destroy(parameter) => state.destroy(self.name(parameter)),
         }
+    }
+}
+
+/// A state as a request's parameters see it.
+struct Seen<'s> {
+    request: &'s Request<'s>,
+    state: &'s Protection,
+}
+
+impl Sight for Seen<'_> {
+    fn entry(&self, parameter: Parameter) -> Option<&Entry> {
+        self.state.entry(self.request.name(parameter))
+    }
+
+    fn cell(&self, place: Place) -> Mask {
+        let (row, column) = self.request.cell(place);
+        self.state.cells.get(row, column)
     }
 }

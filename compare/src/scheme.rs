@@ -1,6 +1,6 @@
 //! Schemes, and how they are read from a tape.
 
-use crate::entry::{value_or_null, Attribute, Right};
+use crate::entry::{value_or_null, Attribute, Entry, Mask, Right};
 use crate::fault::{Fault, Layer, Rule};
 use crate::scale::Value;
 use crate::tape::{Code, Order, Orders};
@@ -14,6 +14,9 @@ const MOST_STEPS: usize = 16;
 pub struct Parameter(u8);
 
 impl Parameter {
+    /// As many as a command may have.
+    pub const ALL: [Parameter; 3] = [Parameter(0), Parameter(1), Parameter(2)];
+
     pub fn index(self) -> usize {
         usize::from(self.0)
     }
@@ -79,8 +82,45 @@ pub enum Test {
     },
 }
 
+/// What a command's parameters see of a state: the entry that each stands for, where there is one, and the cells
+/// between them.
+pub trait Sight {
+    fn entry(&self, parameter: Parameter) -> Option<&Entry>;
+
+    fn cell(&self, place: Place) -> Mask;
+}
+
 impl Test {
-    fn names(self, parameter: Parameter) -> bool {
+    pub fn passes(self, sight: &impl Sight) -> bool {
+        let value_of = |parameter, attribute| {
+            sight
+                .entry(parameter)
+                .and_then(|entry: &Entry| entry.attributes.get(attribute))
+        };
+        match self {
+            Test::Has { right, place } => sight.cell(place).has(right),
+            Test::Is {
+                parameter,
+                attribute,
+                value,
+            } => value_of(parameter, attribute) == value,
+            Test::IsNot {
+                parameter,
+                attribute,
+                value,
+            } => value_of(parameter, attribute) != value,
+            Test::Covers {
+                one,
+                attribute,
+                other,
+            } => match (sight.entry(one), sight.entry(other)) {
+                (Some(one), Some(other)) => one.covers(attribute, other),
+                _ => false,
+            },
+        }
+    }
+
+    pub fn names(self, parameter: Parameter) -> bool {
         match self {
             Test::Has { place, .. } => place.row == parameter || place.column == parameter,
             Test::Is {
@@ -143,7 +183,7 @@ impl Command {
         self.steps.contains(&Step::Create(parameter))
     }
 
-    fn destroys(&self, parameter: Parameter) -> bool {
+    pub fn destroys(&self, parameter: Parameter) -> bool {
         self.steps.contains(&Step::Destroy(parameter))
     }
 

@@ -30,6 +30,7 @@ pub enum Ask {
     Open(Vec<u8>),
     Request { command: u8, names: Vec<u8> },
     Rule { row: u8, column: u8, right: u8 },
+    Check { certificate: Vec<u8>, bans: Vec<u8> },
     State,
 }
 
@@ -95,9 +96,27 @@ fn read_ask(keyword: &[u8], rest: &[&[u8]]) -> Result<Ask, BadLine> {
             column: read_byte(column)?,
             right: read_byte(right)?,
         }),
+        (b"check", tapes) => read_check(tapes),
         (b"state", []) => Ok(Ask::State),
         _ => Err(BadLine),
     }
+}
+
+/// The two tapes of a check. The one slash between them may be a word of its own or stand at the end of a pair.
+fn read_check(words: &[&[u8]]) -> Result<Ask, BadLine> {
+    let text = words.join(&b' ');
+    let sides: Vec<&[u8]> = text.split(|&byte| byte == b'/').collect();
+    let [certificate, bans] = sides[..] else {
+        return Err(BadLine);
+    };
+    let tape = |side: &[u8]| {
+        let words: Vec<&[u8]> = side.split(is_blank).collect();
+        read_tape(&words)
+    };
+    Ok(Ask::Check {
+        certificate: tape(certificate)?,
+        bans: tape(bans)?,
+    })
 }
 
 /// The bytes that words of hex digits spell. A blank stands only between pairs, so each word is whole pairs.

@@ -122,6 +122,7 @@ fn answer_of(register: &mut Register, ask: &Ask) -> Answer {
             Err(fault) => Answer::Refused(fault),
         },
         Ask::Rule { row, column, right } => Answer::Ruled(register.rule(*row, *column, *right)),
+        Ask::Check { certificate, bans } => register.check(certificate, bans).into(),
         Ask::State => Answer::Held(register.state().clone()),
     }
 }
@@ -147,4 +148,38 @@ pub fn answers(script: &[u8]) -> impl Iterator<Item = Answered<'_>> {
                 answer,
             })
         })
+}
+
+#[cfg(test)]
+mod tests {
+    use super::*;
+    use crate::generator::{self, Manner};
+
+    /// What a certificate says once it is accepted holds for good: no request takes the register out of it.
+    #[test]
+    fn what_is_accepted_stays_accepted() {
+        let mut times = 0;
+        for seed in 0..150 {
+            let script = generator::script(seed, Manner::of_seed(seed));
+            let mut session = Session::default();
+            let mut accepted = Vec::new();
+            for line in script::lines(&script) {
+                let answer = session.answer_line(line);
+                match (script::read_line(line), answer) {
+                    (Ok(Some(Call::Ask(Ask::Check { .. }))), Some(Answer::Done)) => {
+                        accepted.push(line);
+                    }
+                    (Ok(Some(Call::Scheme(_) | Call::Ask(Ask::Open(_)))), _) => accepted.clear(),
+                    (_, Some(Answer::Counted(_))) => {
+                        for line in &accepted {
+                            assert_eq!(session.answer_line(line), Some(Answer::Done));
+                            times += 1;
+                        }
+                    }
+                    _ => {}
+                }
+            }
+        }
+        assert!(times > 200, "only {times} checks were made again");
+    }
 }

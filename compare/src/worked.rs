@@ -18,7 +18,7 @@ macro_rules! worked {
     };
 }
 
-pub const TABLE: [Worked; 8] = [
+pub const TABLE: [Worked; 10] = [
     worked!("small-kiosk"),
     worked!("scheme-refusals"),
     worked!("opening-refusals"),
@@ -26,6 +26,8 @@ pub const TABLE: [Worked; 8] = [
     worked!("steps"),
     worked!("limits"),
     worked!("rulings"),
+    worked!("checks"),
+    worked!("check-refusals"),
     worked!("lines"),
 ];
 

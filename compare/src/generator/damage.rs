@@ -11,6 +11,20 @@ use crate::entry::NULL;
 pub enum Tape {
     Scheme,
     Opening,
+    Certificate,
+    Bans,
+}
+
+impl Tape {
+    /// Where its orders stand in the table.
+    fn orders(self) -> &'static [(u8, usize)] {
+        match self {
+            Tape::Scheme => &ORDERS[..11],
+            Tape::Opening => &ORDERS[11..14],
+            Tape::Certificate => &ORDERS[14..16],
+            Tape::Bans => &ORDERS[16..],
+        }
+    }
 }
 
 /// The bytes of the orders of all four tapes, with how many operands follow each.
@@ -46,6 +60,7 @@ pub fn damaged(dice: &mut Dice, draft: Draft, tape: Tape) -> Vec<u8> {
     let one_in = match tape {
         Tape::Scheme => 200,
         Tape::Opening => 80,
+        Tape::Certificate | Tape::Bans => 50,
     };
     if dice.below(one_in) == 0 {
         return long(dice, tape);
@@ -70,6 +85,16 @@ fn long(dice: &mut Dice, tape: Tape) -> Vec<u8> {
             bytes.extend([0x42, 0x0F, 0x05, 0x05].repeat(LONGEST / 4 + 1));
             bytes
         }
+        Tape::Certificate => {
+            // With five stamps the longest tape ends with an order.
+            let mut bytes = Vec::new();
+            for value in 0..5 {
+                bytes.extend([0x50, 0x01, 0xFF, 0xFF, value, 0xFF]);
+            }
+            bytes.extend([0x51, 0x04, 0x00, 0x80, 0x01].repeat(LONGEST / 5 + 1));
+            bytes
+        }
+        Tape::Bans => [0x60, 0x0F, 0x00, 0xFF, 0x03, 0xFF].repeat(LONGEST / 6 + 1),
     };
     if dice.chance(30) {
         bytes.fill(0xEE);
@@ -90,6 +115,7 @@ fn change_orders(dice: &mut Dice, draft: &mut Draft, tape: Tape) {
         5..=8 => {
             let order = match tape {
                 Tape::Opening if dice.chance(70) => stray_item(dice, draft),
+                Tape::Certificate if dice.chance(70) => stray_line(dice, draft),
                 _ => stray(dice, tape),
             };
             draft.orders.insert(at, order);
@@ -113,7 +139,55 @@ fn change_orders(dice: &mut Dice, draft: &mut Draft, tape: Tape) {
         }
         13..=14 => repeat_order(dice, draft),
         15..=16 => repeat_all(dice, draft),
-        _ => misuse(dice, draft),
+        _ => match tape {
+            Tape::Scheme | Tape::Opening => misuse(dice, draft),
+            Tape::Certificate => list_many(dice, draft),
+            Tape::Bans => ban_many(dice, draft),
+        },
+    }
+}
+
+/// Lists stamps until there are about as many as there may be.
+fn list_many(dice: &mut Dice, draft: &mut Draft) {
+    let is_stamp = |order: &OrderBytes| order.first() == Some(&0x50);
+    let count = draft.orders.iter().filter(|order| is_stamp(order)).count();
+    let wanted = dice.one_of([31, 32, 32, 33, 33, 33, 34]);
+    let numbers = (0..=u8::MAX).map(|it| [0x50, 1 + it % 2, it / 2 % 8, it / 16, 15, 7]);
+    for order in numbers.take(wanted - count.min(wanted)) {
+        draft.orders.push(order.to_vec());
+    }
+    let stamps: Vec<usize> = (0..draft.orders.len())
+        .filter(|&at| is_stamp(&draft.orders[at]))
+        .collect();
+    // What is one too many may be wrong besides: out of range, or there already.
+    if let Some(&last) = stamps.get(32) {
+        match dice.below(4) {
+            0 => change_operand(dice, &mut draft.orders[last]),
+            1 => draft.orders[last] = draft.orders[stamps[dice.below(32)]].clone(),
+            _ => {}
+        }
+    }
+    if dice.chance(50) {
+        let number = dice.one_of([0, 15, 30, 31, 32]);
+        let other = dice.one_of([0, 31, number]);
+        let at = draft.orders.len();
+        let at = dice.one_of([at, at, at.saturating_sub(1)]);
+        draft.orders.insert(at, vec![0x51, number, other, 0, 1]);
+    }
+}
+
+/// Puts bans down again until there are about as many as there may be.
+fn ban_many(dice: &mut Dice, draft: &mut Draft) {
+    if draft.orders.is_empty() {
+        draft.push(&[0x60, 15, 0, 7, 1, 15]);
+    }
+    let wanted = dice.one_of([15, 16, 16, 17, 17, 18]);
+    draft.orders = (0..wanted)
+        .map(|_| draft.orders[dice.below(draft.orders.len())].clone())
+        .collect();
+    if dice.chance(50) {
+        let at = dice.one_of([wanted - 1, 15]).min(wanted - 1);
+        change_operand(dice, &mut draft.orders[at]);
     }
 }
 
@@ -185,7 +259,14 @@ fn edges_of(order: &[u8], at: usize) -> Vec<u8> {
         ([0x21..=0x23 | 0x32, ..], 2) => vec![3, 4, NULL],
         ([0x21 | 0x22 | 0x32, _, attribute, _], 3) => edges_of_values(usize::from(*attribute)),
         ([0x20..=0x34, ..], _) => vec![0, 1, 2, 3, NULL],
-        ([0x40 | 0x41, ..], 2..) => edges_of_values(at - 2),
+        ([0x40 | 0x41 | 0x50, ..], 2..) => edges_of_values(at - 2),
+        ([0x50, ..], _) => vec![0, 1, 2, 3],
+        ([0x51, ..], 1 | 2) => vec![0, 31, 32, NULL],
+        ([0x51, ..], _) => vec![0, 1, 128, NULL],
+        ([0x60, ..], 1) => vec![15, 16, NULL],
+        ([0x60, ..], 2 | 4) => vec![0, 3, 4, NULL],
+        ([0x60, _, attribute, ..], 3) => edges_of_values(usize::from(*attribute)),
+        ([0x60, _, _, _, attribute, _], _) => edges_of_values(usize::from(*attribute)),
         _ => vec![63, 64, NULL],
     }
 }
@@ -199,12 +280,8 @@ fn edges_of_values(attribute: usize) -> Vec<u8> {
 
 /// An order out of nowhere, mostly of this tape and with small operands.
 fn stray(dice: &mut Dice, tape: Tape) -> OrderBytes {
-    let of_tape = match tape {
-        Tape::Scheme => &ORDERS[..11],
-        Tape::Opening => &ORDERS[11..14],
-    };
     let from = if dice.chance(93) {
-        of_tape
+        tape.orders()
     } else {
         &ORDERS[..]
     };
@@ -239,13 +316,30 @@ fn stray_item(dice: &mut Dice, draft: &Draft) -> OrderBytes {
     order
 }
 
+/// A stamp that is on the tape, or a pair with numbers of such stamps, or of one more, whether before or after.
+fn stray_line(dice: &mut Dice, draft: &Draft) -> OrderBytes {
+    let stamps: Vec<&OrderBytes> = (draft.orders.iter())
+        .filter(|order| order.first() == Some(&0x50))
+        .collect();
+    let mut number = || u8::try_from(dice.below(stamps.len() + 1)).unwrap_or(NULL);
+    let (one, other) = (number(), number());
+    let mut order = match dice.pick(&stamps) {
+        Some(stamp) if dice.chance(35) => stamp.clone(),
+        _ => vec![0x51, one, other, 0, 1],
+    };
+    if dice.chance(25) {
+        change_operand(dice, &mut order);
+    }
+    order
+}
+
 /// Repeats a test, a step or a right as often as it may stand in a command, or once more.
 fn repeat_order(dice: &mut Dice, draft: &mut Draft) {
     let repeatable: Vec<usize> = (0..draft.orders.len())
         .filter(|&at| {
             matches!(
                 draft.orders[at].first(),
-                Some(0x20..=0x23 | 0x30..=0x32 | 0x42)
+                Some(0x20..=0x23 | 0x30..=0x32 | 0x42 | 0x51 | 0x60)
             )
         })
         .collect();

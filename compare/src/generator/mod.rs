@@ -3,6 +3,10 @@
 //! A script follows from its seed and its manner. While it is written, the engine answers its lines, so that most of the
 //! requests in it can be such as are accepted in the state that the lines before have left.
 
+mod bans;
+mod calls;
+mod certificates;
+mod checks;
 mod damage;
 mod draft;
 mod openings;
@@ -17,6 +21,8 @@ use crate::dice::Dice;
 use crate::fault::Rule;
 use crate::register::Register;
 use crate::session::{Answer, Session};
+pub use calls::calls;
+use checks::Check;
 use damage::Tape;
 use draft::Draft;
 use requests::Hope;
@@ -85,6 +91,7 @@ pub fn script(seed: u64, manner: Manner) -> Vec<u8> {
         manner,
         goal,
         session: Session::default(),
+        checked: None,
         lines: Vec::new(),
     };
     scribe.write();
@@ -100,6 +107,8 @@ struct Scribe {
     goal: usize,
     /// The answers to the lines so far.
     session: Session,
+    /// The last check that was asked for.
+    checked: Option<Check>,
     lines: Vec<Vec<u8>>,
 }
 
@@ -153,9 +162,10 @@ impl Scribe {
             return self.open();
         }
         match self.dice.below(100) {
-            0..=61 => self.request(),
-            62..=76 => self.rule(),
-            77..=81 => self.choose(),
+            0..=52 => self.request(),
+            53..=64 => self.rule(),
+            65..=77 => self.check(8),
+            78..=81 => self.choose(),
             82..=84 => self.damaged_scheme(),
             85..=88 => self.open(),
             89..=92 => self.say_words(Words::new("state")),
@@ -172,8 +182,9 @@ impl Scribe {
             return;
         }
         match self.dice.below(100) {
-            0..=44 => self.damaged_scheme(),
-            45..=69 => self.damaged_opening(),
+            0..=34 => self.damaged_scheme(),
+            35..=54 => self.damaged_opening(),
+            55..=69 => self.check(60),
             70..=81 => self.say(spelling::bad_line),
             82..=85 => self.broken_line(),
             86..=93 => self.wild_request(),
@@ -300,9 +311,10 @@ impl Scribe {
 
     /// A line with a tape, or another, of which a byte is not as it was.
     fn broken_line(&mut self) {
-        let words = match self.dice.below(3) {
+        let words = match self.dice.below(4) {
             0 => Words::new("open").tape(self.opening().bytes()),
             1 => self.filter(),
+            2 => check_words(&self.checked.clone().unwrap_or_default()),
             _ => Words::new("request")
                 .number(self.dice.below(3))
                 .number(self.dice.below(64)),
@@ -347,10 +359,40 @@ impl Scribe {
         self.state_at_times(self.manner.states(was_accepted));
     }
 
+    // Checks.
+
+    /// Checks of which so many in a hundred have a damaged tape.
+    fn check(&mut self, damaged: usize) {
+        match &self.checked {
+            Some(check) if self.dice.chance(20) => {
+                // What was accepted holds for good, as long as there is the same register.
+                let words = check_words(check);
+                return self.say_words(words);
+            }
+            _ => {}
+        }
+        let Some(register) = self.session.register() else {
+            return self.say_words(check_words(&Check::default()));
+        };
+        let count = self.dice.one_of([1, 1, 2, 3]);
+        let (dice, taste) = (&mut self.dice, &self.taste);
+        for check in checks::checks(dice, taste, register, count, damaged) {
+            self.say_words(check_words(&check));
+            self.checked = Some(check);
+        }
+    }
+
     fn rule(&mut self) {
         let question = requests::question(&mut self.dice, &self.taste, self.session.register());
         self.say_words(Words::new("rule").numbers(&question));
     }
+}
+
+fn check_words(check: &Check) -> Words {
+    Words::new("check")
+        .tape(check.certificate.clone())
+        .slash()
+        .tape(check.bans.clone())
 }
 
 /// The names under which entries stand, and of these the cards' names.

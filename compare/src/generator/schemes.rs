@@ -86,17 +86,44 @@ impl<'a> Sketch<'a> {
 
     fn command(mut self, manner: Manner) {
         self.draft.push(&[0x10, self.count, self.cards.0]);
-        for _ in 0..self.number_of_tests(manner) {
+        let mut tests = self.number_of_tests(manner);
+        let rise = if self.dice.chance(20) {
+            tests = tests.min(MOST - 1);
+            self.rise()
+        } else {
+            None
+        };
+        for _ in 0..tests {
             self.test();
         }
         let steps = self.number_of_steps(manner);
         if self.dice.chance(20) {
             self.detour();
         }
-        for _ in 0..steps {
-            self.step();
+        let at = self.dice.below(steps + 1);
+        for step in 0..=steps {
+            if let (true, Some(order)) = (step == at, rise) {
+                self.set_to(order);
+            }
+            if step < steps {
+                self.step();
+            }
         }
         self.draft.push(&[0x1F]);
+    }
+
+    /// Writes a test that a parameter does not have a value as yet, and answers the step that gives it that value.
+    fn rise(&mut self) -> Option<[u8; 4]> {
+        let parameter = self.parameter()?;
+        let attribute = self.taste.attribute(self.dice);
+        let value = self.taste.value(self.dice, attribute);
+        let before = self.taste.value_or_null(self.dice, attribute);
+        if before == value || self.dice.chance(30) {
+            self.draft.push(&[0x22, parameter, attribute, value]);
+        } else {
+            self.draft.push(&[0x21, parameter, attribute, before]);
+        }
+        Some([0x32, parameter, attribute, value])
     }
 
     fn number_of_tests(&mut self, manner: Manner) -> usize {
@@ -192,6 +219,13 @@ impl<'a> Sketch<'a> {
             let attribute = self.taste.attribute(self.dice);
             let value = self.taste.value(self.dice, attribute);
             self.push_step(&[0x32, parameter, attribute, value]);
+        }
+    }
+
+    /// Sets an attribute, unless its parameter is gone.
+    fn set_to(&mut self, order: [u8; 4]) {
+        if !self.gone.has(order[1]) {
+            self.push_step(&order);
         }
     }
 

@@ -9,6 +9,7 @@ enum Word {
     Number(usize),
     Mask(u16),
     Tape(Vec<u8>),
+    Slash,
 }
 
 /// What a line says, word by word; each of them can be spelled in several ways.
@@ -51,6 +52,11 @@ impl Words {
         self.with(Word::Tape(tape))
     }
 
+    /// Around a slash there need be no blanks.
+    pub fn slash(self) -> Self {
+        self.with(Word::Slash)
+    }
+
     /// The line, mostly in the plain spelling.
     pub fn spelled(&self, dice: &mut Dice) -> Vec<u8> {
         let is_plain = dice.chance(85);
@@ -59,14 +65,14 @@ impl Words {
         } else {
             blanks(dice, 0)
         };
-        for (word, at) in self.words.iter().zip(0..) {
-            if at > 0 {
-                line.push_str(&if is_plain {
-                    " ".to_owned()
-                } else {
-                    blanks(dice, 1)
-                });
-            }
+        let mut before: Option<&Word> = None;
+        for word in &self.words {
+            line.push_str(&match before {
+                None => String::new(),
+                Some(_) if is_plain => " ".to_owned(),
+                Some(before) => blanks(dice, blanks_between(before, word)),
+            });
+            before = Some(word);
             match word {
                 Word::Plain(text) => line.push_str(text),
                 Word::Number(number) if is_plain || dice.chance(60) => {
@@ -81,12 +87,21 @@ impl Words {
                 Word::Mask(mask) => line.push_str(&format!("{mask:04x}")),
                 Word::Tape(tape) if is_plain => line.push_str(&pairs(tape, " ")),
                 Word::Tape(tape) => line.push_str(&odd_pairs(dice, tape)),
+                Word::Slash => line.push('/'),
             }
         }
         if !is_plain {
             line.push_str(&blanks(dice, 0));
         }
         line.into_bytes()
+    }
+}
+
+/// How many blanks there must be between two words.
+fn blanks_between(one: &Word, other: &Word) -> usize {
+    match (one, other) {
+        (Word::Slash, _) | (_, Word::Slash) => 0,
+        _ => 1,
     }
 }
 
@@ -193,6 +208,25 @@ pub fn bad_line(dice: &mut Dice) -> Vec<u8> {
         b"rule 256 1 0",
         b"rule 0 1 A",
         b"rule 0 1 \xFF",
+        b"check",
+        b"check 50 01 03 FF FF FF",
+        b"check 50 / 60 /",
+        b"check //",
+        b"check / /",
+        b"check /1",
+        b"check 5/0",
+        b"check 5 / 0 6 0",
+        b"check 5 0 /",
+        b"check 500 / 60",
+        b"check 50 / 0x60",
+        b"check 50 \\ 60",
+        b"check/",
+        b"check/60",
+        b"check50 /",
+        b"checks /",
+        b"Check /",
+        b"check / # now",
+        b"/",
         b"state 1",
         b"State",
         b"states",
@@ -241,6 +275,8 @@ mod tests {
     fn every_spelling_says_the_same() {
         let words = Words::new("filter").number(3).mask(0xAB0C);
         let tape = Words::new("open").tape(vec![0x0F, 0xF0, 0xAB]);
+        let check = Words::new("check").tape(vec![0xB5]).slash().tape(vec![6]);
+        let empty = Words::new("check").tape(Vec::new()).slash();
         let mut dice = Dice::new(1);
         for _ in 0..300 {
             assert_eq!(
@@ -251,6 +287,11 @@ mod tests {
                 read_line(&tape.spelled(&mut dice)),
                 read_line(b"open 0F F0 AB")
             );
+            assert_eq!(
+                read_line(&check.spelled(&mut dice)),
+                read_line(b"check B5/06")
+            );
+            assert_eq!(read_line(&empty.spelled(&mut dice)), read_line(b"check /"));
         }
     }
 
