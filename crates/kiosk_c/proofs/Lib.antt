@@ -1,2 +1,3 @@
 pub mod OneCode
+pub mod ReadingBack
 pub mod Worked

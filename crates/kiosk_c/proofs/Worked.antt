@@ -11,15 +11,15 @@ use Rattle.register.specs.Worked.{kiosk_scheme, kiosk_commands, kiosk_opened, Ki
 use Rattle.register.proofs.Worked.{worked_kiosk}
 use Rattle.checker.specs.Worked.{regrade_scheme, regrade, RegradeKiosk}
 use Rattle.checker.proofs.Worked.{regrade_read, worked_checks}
-use Rattle.kiosk_c.specs.Codes.{on_board, Handed, on_register, checked, code_of}
+use Rattle.kiosk_c.specs.Codes.{on_board, Handed, on_register, checked, code_of, Readable}
 use Rattle.kiosk_c.specs.Worked.{HasCode, WorkedCodes}
 use Rattle.kiosk_c.proofs.OneCode.{one_code}
 
 -- one answer to the tapes decides their code
-has_code : (scheme bans : List ℕ) (answer : Answer (Unit {0})) (expected : ℕ) → code_of answer ≡ expected → Handed scheme kiosk_tape certificate_tape bans answer → HasCode scheme bans expected
-has_code scheme bans answer expected coded handed code = (
-  λ is. one_code scheme kiosk_tape certificate_tape bans code expected is (record { answer = answer; handed = handed; coded = sym coded }),
-  λ same. record { answer = answer; handed = handed; coded = same ∙ sym coded },
+has_code : (scheme bans : List ℕ) (answer : Answer (Unit {0})) (expected : ℕ) → Readable answer → code_of answer ≡ expected → Handed scheme kiosk_tape certificate_tape bans answer → HasCode scheme bans expected
+has_code scheme bans answer expected readable coded handed code = (
+  λ is. one_code scheme kiosk_tape certificate_tape bans code expected is (record { answer = answer; handed = handed; coded = sym coded; readable = readable }),
+  λ same. record { answer = answer; handed = handed; coded = same ∙ sym coded; readable = readable },
 )
 
 -- the kiosk's opening is accepted, whatever the commands are
@@ -58,7 +58,7 @@ escaped =
 
 pub worked_codes : WorkedCodes
 worked_codes = record {
-  kept = has_code kiosk_scheme right_1_tape (accepted tt) 0 refl kept;
-  met = has_code kiosk_scheme right_0_tape (refused 6 19 0) _ refl met;
-  escaped = has_code regrade_scheme right_1_tape (refused 6 18 0) _ refl escaped;
+  kept = has_code kiosk_scheme right_1_tape (accepted tt) 0 tt refl kept;
+  met = has_code kiosk_scheme right_0_tape (refused 6 19 0) _ (omega arith, omega arith, omega arith, omega arith) refl met;
+  escaped = has_code regrade_scheme right_1_tape (refused 6 18 0) _ (omega arith, omega arith, omega arith, omega arith) refl escaped;
 }

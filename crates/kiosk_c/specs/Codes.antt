@@ -1,5 +1,5 @@
 -- What the kiosk's host is answered for its four tapes, as one number.
-use Rattle.std.specs.Prelude.{◌≡◌, ℕ, ◌+◌, ◌*◌, ◌^◌, List}
+use Rattle.std.specs.Prelude.{◌≡◌, ℕ, ◌+◌, ◌*◌, ◌^◌, ◌<◌, List, ⊤}
 use Rattle.model.specs.Answers.{Answer, accepted, refused}
 use Rattle.model.specs.Kiosk.{kiosk_counts, kiosk_covers}
 use Rattle.rulings.specs.Questions.{held}
@@ -36,12 +36,22 @@ abbrev pub code_of : Answer (Unit {0}) → ℕ
 code_of (accepted x) = 0
 code_of (refused layer number place) = layer * 2 ^ 24 + number * 2 ^ 16 + place
 
+-- There is a layer, layer and number are below 256, and the place is below 65,536.
+abbrev pub Readable : Answer (Unit {0}) → Type 0
+Readable (accepted x) = ⊤
+Readable (refused layer number place) = (0 < layer) × (layer < 256) × (number < 256) × (place < 65536)
+
 -- the number is the code of what the tapes are answered
 pub record Coded (scheme opening certificate bans : List ℕ) (code : ℕ) : Type 0 where
   pub answer : Answer (Unit {0})
   pub handed : Handed scheme opening certificate bans answer
   pub coded : code ≡ code_of answer
+  pub readable : Readable answer
 
 -- No four tapes have two codes.
 abbrev pub OneCode : Type 0
 OneCode = (scheme opening certificate bans : List ℕ) (a b : ℕ) → Coded scheme opening certificate bans a → Coded scheme opening certificate bans b → a ≡ b
+
+-- So the answer can be read back: no two have one code.
+abbrev pub ReadBack : Type 0
+ReadBack = (a b : Answer (Unit {0})) → Readable a → Readable b → code_of a ≡ code_of b → a ≡ b

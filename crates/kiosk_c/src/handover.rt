@@ -1,7 +1,7 @@
 // Four tapes, handed over in one call.
 ghost use Rattle.model.specs.Answers.{answer};
 ghost use Rattle.scheme.specs.Views.{commands_of};
-ghost use Rattle.kiosk_c.specs.Codes.{OpenedThenChecked, Handed, Coded, OneCode};
+ghost use Rattle.kiosk_c.specs.Codes.{OpenedThenChecked, Handed, Coded, OneCode, ReadBack};
 ghost use Rattle.kiosk_c.specs.Worked.{WorkedCodes};
 
 use crate::code::code;
@@ -48,6 +48,7 @@ fn take_all(scheme: &[u8], opening: &[u8], certificate: &[u8], bans: &[u8]) -> R
 pub extern "C" fn kiosk_check(scheme: &[u8], opening: &[u8], certificate: &[u8], bans: &[u8]) -> u32
     ensures code { Coded scheme.now opening.now certificate.now bans.now result }
     ensures one { OneCode }
+    ensures back { ReadBack }
     ensures worked { WorkedCodes }
 {
     match take_all(scheme, opening, certificate, bans) {

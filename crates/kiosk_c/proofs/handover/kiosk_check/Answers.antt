@@ -1,4 +1,5 @@
 use Rattle.kiosk_c.proofs.OneCode.{one_code}
+use Rattle.kiosk_c.proofs.ReadingBack.{read_back}
 use Rattle.kiosk_c.proofs.Worked.{worked_codes}
 use Rattle.kiosk_c.proofs.handover.kiosk_check.Goals as goal
 
@@ -13,3 +14,9 @@ returns-in-Err-clause-one c = one_code
 
 pub returns-in-Err-clause-worked : goal.returns-in-Err-clause-worked
 returns-in-Err-clause-worked c = worked_codes
+
+pub returns-in-Ok-clause-back : goal.returns-in-Ok-clause-back
+returns-in-Ok-clause-back c = read_back
+
+pub returns-in-Err-clause-back : goal.returns-in-Err-clause-back
+returns-in-Err-clause-back c = read_back
