@@ -3,7 +3,7 @@ use Rattle.std.proofs.Common.{◌≡◌, ℕ, zero, suc, ◌<◌, ◌≤◌, Boo
 use mathlib.Core.Path.{fun_ext}
 use Rattle.std.specs.List.{list_all}
 use Rattle.std.specs.Option.{option_map}
-use Rattle.std.proofs.lemmas.Bool.{cases_lt, and_parts, and_from, both_ways, le-ltb}
+use Rattle.std.proofs.lemmas.Bool.{cases_lt, and_parts, and_from}
 use Rattle.std.proofs.lemmas.Option.{none-some, slice_get-map}
 use Rattle.model.specs.declared.stamp.Stamp.{Stamp}
 use Rattle.model.specs.Masks.{Within}
@@ -16,6 +16,7 @@ use Rattle.protection.proofs.Outside.{entry_kept}
 use Rattle.protection.proofs.Places.{Shaped, run_entry}
 use Rattle.certificates.specs.Certificates.{Certificate, lists, allows}
 use Rattle.certificates.proofs.Listed.{there_listed}
+use Rattle.castings.proofs.Binding.{uncast, uncast_none}
 use Rattle.castings.specs.Castings.{Casting, is_cast, suits, cast_state}
 use Rattle.castings.specs.Closure.{Keeps, Closed, outcome_of}
 use Rattle.checker.proofs.Picking.{of_three, three_at, picked, of_listed, all_listed, within, within_so, stamp_kept, stamp_so}
@@ -107,10 +108,6 @@ module _ (covers : (k a b : ℕ) → Bool) (c : Certificate) (m : Command) where
   abbrev pub closed_of : Bool
   closed_of = list_all second (filter (suits c m 0) (choices c))
 
-  none_past : (i : ℕ) (e : Option Stamp) → is_cast m i ≡ false → suits c m i e ≡ true → e ≡ None
-  none_past i None not_cast suited = refl
-  none_past i (Some s) not_cast suited = absurd (both_ways (is_cast m i) not_cast (and_parts (is_cast m i) _ suited).0)
-
   chosen : (f g : Option Stamp → Bool) (i : ℕ) (e : Option Stamp) → suits c m i e ≡ true → g e ≡ true → list_all f (filter g (choices c)) ≡ true → f e ≡ true
   chosen f g i None suited is all = picked f g (choices c) 0 None refl is all
   chosen f g i (Some s) suited is all =
@@ -119,9 +116,6 @@ module _ (covers : (k a b : ℕ) → Bool) (c : Certificate) (m : Command) where
       picked f g (choices c) (suc at.0) (Some s) (slice_get-map (λ s. Some s) c.stamps at.0 ∙ ap (option_map (λ s. Some s)) at.1) is all
 
   module _ (few : m.params ≤ 3) (shaped : Shaped 3 m.steps) where
-    past_cast : (i : ℕ) → 3 ≤ i → is_cast m i ≡ false
-    past_cast i past = rw (le-ltb i m.params (omega arith)) refl
-
     given : (σ : Casting) → ((i : ℕ) → 3 ≤ i → σ i ≡ None) → (i : ℕ) → three_given (σ 0) (σ 1) (σ 2) i ≡ σ i
     given σ none zero = refl
     given σ none (suc zero) = refl
@@ -136,7 +130,7 @@ module _ (covers : (k a b : ℕ) → Bool) (c : Certificate) (m : Command) where
 
     pub closed_by : closed_of ≡ true → Closed covers c m
     closed_by all σ casts passing =
-        let none : (i : ℕ) → 3 ≤ i → σ i ≡ None = λ i past. none_past i (σ i) (past_cast i past) (casts i) in
+        let none : (i : ℕ) → 3 ≤ i → σ i ≡ None = λ i past. uncast_none c m few i (σ i) (uncast c m few i past) (casts i) in
         let same : three_given (σ 0) (σ 1) (σ 2) ≡ σ = fun_ext (given σ none) in
         let at_0 = chosen second (suits c m 0) 0 (σ 0) (casts 0) (casts 0) all in
         let at_1 = chosen (third (σ 0)) (suits c m 1) 1 (σ 1) (casts 1) (casts 1) at_0 in

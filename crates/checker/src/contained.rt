@@ -22,7 +22,7 @@ fn is_unlisted(certificate: &Certificate, entry: Option<Stamp>) -> bool
     entry.is_some_and(|stamp| !certificate.lists(&stamp))
 }
 
-// The lowest right of the cell that is not allowed between its two entries.
+// A right of the cell that is not allowed between its two entries.
 fn right_outside<S: Scales, C: CellStore, R: Ruling>(
     register: &Register<S, C, R>,
     certificate: &Certificate,
@@ -35,7 +35,7 @@ fn right_outside<S: Scales, C: CellStore, R: Ruling>(
     outside(register.cell(row, column), allowed)
 }
 
-// The first cell of the row that holds a right that is not allowed.
+// A cell of the row that holds a right that is not allowed.
 fn stray_cell<S: Scales, C: CellStore, R: Ruling>(
     register: &Register<S, C, R>,
     certificate: &Certificate,

@@ -32,11 +32,11 @@ bound_to None names given is = cc
 bound_to (Some r) names given is = cc
 
 -- a rule at the front of a list in which none is broken
-front : (n : ℕ) (o : Option ℕ) (rest : Option (ℕ × ℕ)) → or_else n o rest ≡ None → (o ≡ None) × (rest ≡ None)
+pub front : (n : ℕ) (o : Option ℕ) (rest : Option (ℕ × ℕ)) → or_else n o rest ≡ None → (o ≡ None) × (rest ≡ None)
 front n None rest none = (refl, none)
 front n (Some p) rest none = cc
 
-not_whole : (b : Bool) → whole_if b ≡ None → b ≡ false
+pub not_whole : (b : Bool) → whole_if b ≡ None → b ≡ false
 not_whole false none = refl
 not_whole true none = cc
 
