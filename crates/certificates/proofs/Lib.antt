@@ -5,6 +5,7 @@ pub mod Listed
 pub mod Listing
 pub mod Masks
 pub mod Numbers
+pub mod OnlyListed
 pub mod Readings
 pub mod Stamps
 pub mod Worked

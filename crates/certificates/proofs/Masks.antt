@@ -3,7 +3,7 @@ use Rattle.std.proofs.Common.{◌≡◌, ℕ, zero, suc, ◌+◌, ◌*◌, ◌<�
 use Rattle.std.proofs.lemmas.Bool.{cases_lt, cases_eq, and_right, eq-eqb, ne_eqb, lt-ltb, le-ltb}
 use mathlib.Core.Path.{fun_ext}
 use Rattle.stores.specs.Matrices.{Matrix, blank, written}
-use Rattle.certificates.specs.Views.{masks_of}
+use Rattle.certificates.specs.Places.{masks_of}
 
 -- two matrices that agree at each pair of numbers are one
 pub same_matrix : (f g : Matrix) → ((u v : ℕ) → f u v ≡ g u v) → f ≡ g
@@ -14,7 +14,7 @@ zero_at zero i = refl
 zero_at (suc n) zero = refl
 zero_at (suc n) (suc i) = zero_at n i
 
-none_if : (b : Bool) (m : ℕ) → m ≡ 0 → cond b m 0 ≡ 0
+pub none_if : (b : Bool) (m : ℕ) → m ≡ 0 → cond b m 0 ≡ 0
 none_if true m none = none
 none_if false m none = refl
 

@@ -2,7 +2,7 @@
 use Rattle.std.proofs.Common.{◌≡◌, ℕ, ◌<◌, ◌≤◌, Bool, true, false, if◌then◌else◌, is_some, List, [], ◌∷◌, ◌++◌, length, get_or, slice_get, Some, None, Option, refl, sym, ap, ◌∙◌, subst, ⊎_elim, arith}
 use Rattle.std.specs.List.{position, position_or_len}
 use Rattle.std.proofs.lemmas.Bool.{cases_lt, both_ways, lt-ltb}
-use Rattle.std.proofs.lemmas.List.{length_push, get_or_append_left}
+use Rattle.std.proofs.lemmas.List.{length_push, length-append, get_or_append_left}
 use Rattle.std.proofs.lemmas.List.Quantifiers.{position-Some}
 use Rattle.std.proofs.lemmas.List.Sums.{fails_before_first}
 use Rattle.std.proofs.lemmas.Option.{none-some, slice_get_within, slice_get-get_or, get_or_from_slice_get}
@@ -41,17 +41,24 @@ place_found stamps s n apart there = by (position (λ t. same_stamp t s) stamps)
     by None none = absurd (not_there stamps s n none there)
     by (Some m) found = ap (λ k. Some k) (apart m n s (found_there stamps s m found) there)
 
+-- a stamp that is there is still there with others after it
+pub still_there : (stamps others : List Stamp) (n : ℕ) (s : Stamp) → slice_get stamps n ≡ Some s → slice_get (stamps ++ others) n ≡ Some s
+still_there stamps others n s there =
+    let low = slice_get_within stamps n s there in
+    slice_get-get_or (stamps ++ others) n s (omega (arith, low, length-append stamps others))
+    ∙ ap (λ x. Some x) (get_or_append_left stamps others s n low ∙ get_or_from_slice_get stamps n s s there)
+
 -- one more at the end
 module _ (stamps : List Stamp) (s : Stamp) where
-  abbrev more : List Stamp
+  abbrev pub more : List Stamp
   more = stamps ++ s ∷ []
 
-  before_last : (n : ℕ) (t : Stamp) → n < length stamps → slice_get more n ≡ Some t → slice_get stamps n ≡ Some t
+  pub before_last : (n : ℕ) (t : Stamp) → n < length stamps → slice_get more n ≡ Some t → slice_get stamps n ≡ Some t
   before_last n t low there =
       slice_get-get_or stamps n t low
       ∙ ap (λ x. Some x) (sym (get_or_append_left stamps (s ∷ []) t n low) ∙ get_or_from_slice_get more n t t there)
 
-  at_last : (n : ℕ) (t : Stamp) → length stamps ≤ n → slice_get more n ≡ Some t → (n ≡ length stamps) × (t ≡ s)
+  pub at_last : (n : ℕ) (t : Stamp) → length stamps ≤ n → slice_get more n ≡ Some t → (n ≡ length stamps) × (t ≡ s)
   at_last n t high there =
       let inside = slice_get_within more n t there in
       let here : n ≡ length stamps = omega (arith, high, inside, length_push stamps s) in

@@ -1,9 +1,9 @@
 -- A certificate says which sort of card may ever hold which right on which sort of entry.
-use Rattle.std.specs.Prelude.{◌≡◌, ℕ, Bool, cond, List, [], ◌∷◌, ◌++◌, Some, None, Option, is_some, slice_get}
+use Rattle.std.specs.Prelude.{◌≡◌, ℕ, Bool, false, ◌&&◌, cond, List, [], ◌∷◌, ◌++◌, length, Some, None, Option, is_some, nat_lt, slice_get}
 use Rattle.std.specs.List.{position}
 use Rattle.model.specs.declared.stamp.Stamp.{Stamp}
 use Rattle.model.specs.Kinds.{subject_kind}
-use Rattle.model.specs.Stamps.{same_stamp}
+use Rattle.model.specs.Stamps.{same_stamp, is_subject}
 use Rattle.stores.specs.Matrices.{Matrix, blank, written}
 
 -- the stamps that are listed, by their numbers, and what each is allowed on each, by two numbers
@@ -55,3 +55,7 @@ stamp_at c (Some n) = slice_get c.stamps n
 -- No two of the listed stamps are the same.
 abbrev pub Apart : List Stamp → Type 0
 Apart stamps = (m n : ℕ) (s : Stamp) → slice_get stamps m ≡ Some s → slice_get stamps n ≡ Some s → m ≡ n
+
+-- Two numbers have a mask only where both are listed stamps', the first a card's.
+abbrev pub OnlyListed : List Stamp → Matrix → Type 0
+OnlyListed stamps masks = (m n : ℕ) → (is_subject (slice_get stamps m) && nat_lt n (length stamps)) ≡ false → masks m n ≡ 0

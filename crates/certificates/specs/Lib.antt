@@ -4,6 +4,7 @@ pub mod Certificates
 pub mod Encoding
 pub mod Items
 pub mod Listing
+pub mod Places
 pub mod Reading
 pub mod Rules
 pub mod Said

@@ -1,6 +1,7 @@
 // A certificate: which stamps are listed, and what each is allowed on each.
 ghost use Rattle.model.specs.Bounded.{listed};
-ghost use Rattle.certificates.specs.Certificates.{Apart};
+ghost use Rattle.certificates.specs.Certificates.{Apart, OnlyListed};
+ghost use Rattle.certificates.specs.Places.{masks_of};
 
 use model::bounded::Bounded;
 use model::mask::Mask;
@@ -22,4 +23,5 @@ pub struct Certificate {
     stamps: Bounded<Stamp, STAMPS>,
     masks: [Mask; PAIRS],
     ghost apart: { Apart (listed stamps) },
+    ghost only_listed: { OnlyListed (listed stamps) (masks_of masks) },
 }

@@ -3,6 +3,8 @@ use Rattle.std.specs.List.{position}
 use Rattle.std.proofs.lemmas.Bool.{ltb-true}
 use Rattle.model.specs.Bounded.{listed}
 use Rattle.model.specs.Stamps.{same_stamp}
+use Rattle.certificates.specs.Places.{masks_of}
+use Rattle.certificates.proofs.OnlyListed.{only_listed_if}
 use Rattle.certificates.proofs.Stamps.{not_listed, apart_if}
 use Rattle.certificates.proofs.certificate.Certificate.list.Goals as goal
 use Rattle.certificates.proofs.certificate.Certificate.list.Goals.{else-len-lt-STAMPS-via-then-len-lt-STAMPS+else-lists, else-len-lt-STAMPS-via-else-len-lt-STAMPS}
@@ -16,4 +18,9 @@ invariant_of-self c =
       | else-len-lt-STAMPS-via-then-len-lt-STAMPS+else-lists w ↦ not_listed stamps c.args.stamp (sym w.lists.ensures ∙ w.if-lists.false)
       | else-len-lt-STAMPS-via-else-len-lt-STAMPS w ↦ absurd (omega (arith, w.if-len-lt-STAMPS.false, c.len.ensures, ltb-true (length stamps) 32 (sym c.push.ensures.room ∙ room)))
     ] in
-    record { apart = apart_if stamps c.args.stamp c.args.self.now.apart (is_ok c.push.result) none (listed c.push.new.self) c.push.ensures.items }
+    let room = is_ok c.push.result in
+    let after = listed c.push.new.self in
+    record {
+      apart = apart_if stamps c.args.stamp c.args.self.now.apart room none after c.push.ensures.items;
+      only_listed = only_listed_if stamps c.args.stamp (masks_of c.args.self.now.masks) c.args.self.now.only_listed room after c.push.ensures.items;
+    }
