@@ -14,14 +14,15 @@ use Rattle.scheme.specs.Tests.{test_shaped, test_row_declared}
 use Rattle.protection.specs.Commands.{passes}
 use Rattle.protection.specs.States.{Protection}
 use Rattle.protection.proofs.Shaping.{named_of_more}
-use Rattle.certificates.specs.Certificates.{Certificate, lists, stamp_at}
+use Rattle.certificates.specs.Certificates.{Certificate, Apart, lists, stamp_at}
 use Rattle.castings.specs.declared.escape.Escape.{Escape}
 use Rattle.castings.specs.Binding.{named_below, ReadyPass, SuitsBelow, Agrees, KeepsBy, ClosedFrom, ClosedWith, BreachBy, ShowsBreach}
 use Rattle.castings.specs.Castings.{Casting, Casts, is_cast, suits, cast_state, Passes}
-use Rattle.castings.specs.Closure.{Closed}
 use Rattle.castings.specs.Escapes.{IsEscape}
 use Rattle.castings.specs.Numbers.{stamps_by}
+use Rattle.castings.specs.Places.{ClosedAt, first_at, rest_of}
 use Rattle.castings.proofs.Listing.{beyond_numbers, listed_at}
+use Rattle.castings.proofs.Coming.{comes_on, not_before}
 
 -- ---- one parameter more is bound
 
@@ -141,8 +142,8 @@ module _ (c : Certificate) (m : Command) (few : m.params ≤ 3) where
             beyond_numbers c numbers i long over ∙ sym (uncast_none i (τ i) (uncast i over) (casts i)))
             (cases_lt i d)
 
-    pub kept_from : (covers : (k a b : ℕ) → Bool) → KeepsBy c m (stamps_by c numbers) → ClosedFrom covers c m (stamps_by c numbers) d
-    kept_from covers kept τ casts pass agrees = subst (KeepsBy c m) (same_casting τ casts agrees) kept
+    pub kept_from : (covers : (k a b : ℕ) → Bool) (place : List ℕ) → KeepsBy c m (stamps_by c numbers) → ClosedFrom covers c m (stamps_by c numbers) d place
+    kept_from covers place kept τ casts pass agrees comes = subst (KeepsBy c m) (same_casting τ casts agrees) kept
 
     casts_all : SuitsBelow c m (stamps_by c numbers) d → Casts c m (stamps_by c numbers)
     casts_all below i =
@@ -162,44 +163,49 @@ module _ (c : Certificate) (m : Command) (few : m.params ≤ 3) where
 
 -- ---- one parameter is bound in every way
 
-module _ (covers : (k a b : ℕ) → Bool) (c : Certificate) (m : Command) (σ : Casting) (d : ℕ) where
+module _ (covers : (k a b : ℕ) → Bool) (c : Certificate) (m : Command) (σ : Casting) (d : ℕ) (place : List ℕ) where
   -- what is created is given nothing
-  pub closed_by_none : is_cast m d ≡ false → ClosedWith covers c m σ d None → ClosedFrom covers c m σ d
-  closed_by_none out closed τ casts pass agrees = closed τ casts pass agrees (none (τ d) (casts d))
+  pub closed_by_none : is_cast m d ≡ false → ClosedWith covers c m σ d place None → ClosedFrom covers c m σ d place
+  closed_by_none out closed τ casts pass agrees comes = closed τ casts pass agrees comes (none (τ d) (casts d))
     where
       none : (o : Option Stamp) → suits c m d o ≡ true → o ≡ None
       none None h = refl
       none (Some s) h = absurd (both_ways (is_cast m d) out (and_parts (is_cast m d) (lists c s && (not (has m.cards d) || subject_kind s.kind)) h).0)
 
   -- what is cast is given one of the listed stamps
-  pub closed_by_all : is_cast m d ≡ true → (n : ℕ) → length c.stamps ≤ n → ((k : ℕ) → k < n → ClosedWith covers c m σ d (stamp_at c (Some k))) → ClosedFrom covers c m σ d
-  closed_by_all is n all closed τ casts pass agrees = by (τ d) refl (casts d)
+  pub closed_by_all : is_cast m d ≡ true → (n : ℕ) → length c.stamps ≤ n → ((k : ℕ) → k < n → ClosedWith covers c m σ d place (stamp_at c (Some k))) → ClosedFrom covers c m σ d place
+  closed_by_all is n all closed τ casts pass agrees comes = by (τ d) refl (casts d)
     where
       by : (o : Option Stamp) → τ d ≡ o → suits c m d o ≡ true → KeepsBy c m τ
       by None here h = absurd (both_ways (is_cast m d) (not-true (is_cast m d) h) is)
       by (Some s) here h =
           let parts = and_parts (is_cast m d) (lists c s && (not (has m.cards d) || subject_kind s.kind)) h in
           let found = listed_at c s (and_parts (lists c s) (not (has m.cards d) || subject_kind s.kind) parts.1).0 in
-          closed found.0 (omega (arith, found.1, all)) τ casts pass agrees (here ∙ sym found.2)
+          closed found.0 (omega (arith, found.1, all)) τ casts pass agrees comes (here ∙ sym found.2)
+
+  -- where a number is below the place's, no casting that gives it comes at the place or after it
+  pub closed_before : Apart c.stamps → (k : ℕ) → k < first_at place → ClosedWith covers c m σ d place (stamp_at c (Some k))
+  closed_before apart k less τ casts pass agrees comes here = absurd (not_before c apart τ d (Some k) here place less comes)
 
   -- what it may not be given, it is not given
-  pub closed_unsuited : (stamp : Option Stamp) → suits c m d stamp ≡ false → ClosedWith covers c m σ d stamp
-  closed_unsuited stamp out τ casts pass agrees here = absurd (both_ways (suits c m d stamp) out (ap (suits c m d) (sym here) ∙ casts d))
+  pub closed_unsuited : (stamp : Option Stamp) → suits c m d stamp ≡ false → ClosedWith covers c m σ d place stamp
+  closed_unsuited stamp out τ casts pass agrees comes here = absurd (both_ways (suits c m d stamp) out (ap (suits c m d) (sym here) ∙ casts d))
 
-module _ (covers : (k a b : ℕ) → Bool) (c : Certificate) (m : Command) (numbers : List (Option ℕ)) (d : ℕ) (number : Option ℕ) (low : d < length numbers) where
+module _ (covers : (k a b : ℕ) → Bool) (c : Certificate) (m : Command) (numbers : List (Option ℕ)) (d : ℕ) (place : List ℕ) (number : Option ℕ) (low : d < length numbers) where
   -- where a test fails that can be tried, it fails of all that agree
-  pub closed_unready : list_all (λ t. not (named_below (d + 1) t) || passes covers (cast_state c (stamps_by c (set numbers d number))) t) m.tests ≡ false → ClosedWith covers c m (stamps_by c numbers) d (stamp_at c number)
-  closed_unready fails τ casts pass agrees here =
+  pub closed_unready : list_all (λ t. not (named_below (d + 1) t) || passes covers (cast_state c (stamps_by c (set numbers d number))) t) m.tests ≡ false → ClosedWith covers c m (stamps_by c numbers) d place (stamp_at c number)
+  closed_unready fails τ casts pass agrees comes here =
       absurd
       (both_ways (list_all (λ t. not (named_below (d + 1) t) || passes covers (cast_state c (stamps_by c (set numbers d number))) t) m.tests) fails
       (ready_all covers c (d + 1) (stamps_by c (set numbers d number)) τ (agrees_more c numbers d number τ low agrees here) m.tests pass))
 
-  pub closed_more : ClosedFrom covers c m (stamps_by c (set numbers d number)) (d + 1) → ClosedWith covers c m (stamps_by c numbers) d (stamp_at c number)
-  closed_more closed τ casts pass agrees here = closed τ casts pass (agrees_more c numbers d number τ low agrees here)
+  pub closed_more : Apart c.stamps → ClosedFrom covers c m (stamps_by c (set numbers d number)) (d + 1) (rest_of place number) → ClosedWith covers c m (stamps_by c numbers) d place (stamp_at c number)
+  closed_more apart closed τ casts pass agrees comes here =
+      closed τ casts pass (agrees_more c numbers d number τ low agrees here) (comes_on c apart τ d number here place comes)
 
 -- none is bound at first
-pub closed_at_first : (covers : (k a b : ℕ) → Bool) (c : Certificate) (m : Command) (σ : Casting) → ClosedFrom covers c m σ 0 → Closed covers c m
-closed_at_first covers c m σ closed τ casts pass = closed τ casts pass (λ i lt. absurd (omega (arith, lt)))
+pub closed_at_first : (covers : (k a b : ℕ) → Bool) (c : Certificate) (m : Command) (σ : Casting) (place : List ℕ) → ClosedFrom covers c m σ 0 place → ClosedAt covers c m place
+closed_at_first covers c m σ place closed τ casts pass comes = closed τ casts pass (λ i lt. absurd (omega (arith, lt))) comes
 
 pub suits_at_first : (c : Certificate) (m : Command) (σ : Casting) → SuitsBelow c m σ 0
 suits_at_first c m σ i lt = absurd (omega (arith, lt))

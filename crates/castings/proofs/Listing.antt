@@ -12,7 +12,7 @@ use Rattle.protection.proofs.Tables.{kept_whole, entries_with, table_with}
 use Rattle.certificates.specs.Certificates.{Certificate, number_of, lists, between, stamp_at}
 use Rattle.certificates.proofs.Listed.{listed_there, there_listed}
 use Rattle.certificates.proofs.Stamps.{found_there}
-use Rattle.castings.specs.Castings.{is_cast, suits, cast_state}
+use Rattle.castings.specs.Castings.{Casting, is_cast, suits, cast_state}
 use Rattle.castings.specs.Numbers.{stamps_by}
 
 -- the stamp of a number is listed
@@ -49,19 +49,16 @@ none_between c (Some u) None h = refl
 none_between c (Some u) (Some v) h = ⊎_elim (λ (none : Some u ≡ None). cc) (λ (none : Some v ≡ None). cc) h
 
 -- what the parameters of a casting see, kept in three entries and three by three cells
-pub seen_whole : (c : Certificate) (numbers : List (Option ℕ)) → length numbers ≡ 3 → (entries : List (Option Stamp)) (table : List (List ℕ)) → entries ≡ entries_with (stamps_by c numbers) → table ≡ table_with (cast_state c (stamps_by c numbers)).cells → protection_of (record { entries = entries; cells = table }) ≡ cast_state c (stamps_by c numbers)
-seen_whole c numbers long entries table here there =
-    kept_whole (cast_state c (stamps_by c numbers))
-    (λ i past. beyond_numbers c numbers i long past)
-    (λ i j out. none_between c (stamps_by c numbers i) (stamps_by c numbers j) (by i j out))
-    entries table here there
+pub cast_whole : (c : Certificate) (σ : Casting) → ((i : ℕ) → 3 ≤ i → σ i ≡ None) → (entries : List (Option Stamp)) (table : List (List ℕ)) → entries ≡ entries_with σ → table ≡ table_with (cast_state c σ).cells → protection_of (record { entries = entries; cells = table }) ≡ cast_state c σ
+cast_whole c σ none entries table here there =
+    kept_whole (cast_state c σ) none (λ i j out. none_between c (σ i) (σ j) (by i j out)) entries table here there
   where
-    by : (i j : ℕ) → (3 ≤ i) ⊎ (3 ≤ j) → (stamps_by c numbers i ≡ None) ⊎ (stamps_by c numbers j ≡ None)
-    by i j out =
-        ⊎_elim
-        (λ (row : 3 ≤ i). inl (beyond_numbers c numbers i long row))
-        (λ (column : 3 ≤ j). inr (beyond_numbers c numbers j long column))
-        out
+    by : (i j : ℕ) → (3 ≤ i) ⊎ (3 ≤ j) → (σ i ≡ None) ⊎ (σ j ≡ None)
+    by i j out = ⊎_elim (λ (row : 3 ≤ i). inl (none i row)) (λ (column : 3 ≤ j). inr (none j column)) out
+
+-- the same of a casting by the numbers of its stamps
+pub seen_whole : (c : Certificate) (numbers : List (Option ℕ)) → length numbers ≡ 3 → (entries : List (Option Stamp)) (table : List (List ℕ)) → entries ≡ entries_with (stamps_by c numbers) → table ≡ table_with (cast_state c (stamps_by c numbers)).cells → protection_of (record { entries = entries; cells = table }) ≡ cast_state c (stamps_by c numbers)
+seen_whole c numbers long = cast_whole c (stamps_by c numbers) (λ i past. beyond_numbers c numbers i long past)
 
 -- three numbers by their stamps
 pub three_stamps : (c : Certificate) (e : Excerpt) → length e.entries ≡ 3 → (x y z : Option ℕ) → stamp_at c x ≡ (protection_of e).entry 0 → stamp_at c y ≡ (protection_of e).entry 1 → stamp_at c z ≡ (protection_of e).entry 2 → stamps_by c (x ∷ y ∷ z ∷ []) ≡ (protection_of e).entry

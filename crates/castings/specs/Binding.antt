@@ -1,6 +1,6 @@
 -- What the parts of the decision do: castings are tried parameter by parameter, and what is said here is of those below d, which are
 -- bound.
-use Rattle.std.specs.Prelude.{◌≡◌, ℕ, ◌<◌, Bool, true, not, ◌&&◌, ◌||◌, Option, nat_lt}
+use Rattle.std.specs.Prelude.{◌≡◌, ℕ, ◌<◌, Bool, true, not, ◌&&◌, ◌||◌, List, Option, nat_lt}
 use Rattle.std.specs.List.{list_all}
 use Rattle.model.specs.declared.stamp.Stamp.{Stamp}
 use Rattle.scheme.specs.declared.test.Test.{Test}
@@ -13,6 +13,7 @@ use Rattle.certificates.specs.Certificates.{Certificate}
 use Rattle.castings.specs.Castings.{Casting, Casts, cast_state, suits, Passes}
 use Rattle.castings.specs.Closure.{Keeps, outcome_of}
 use Rattle.castings.specs.Escapes.{IsBreach, casting_of}
+use Rattle.castings.specs.Places.{ComesAt}
 use Rattle.castings.specs.declared.escape.Breach.{Breach}
 use Rattle.castings.specs.declared.escape.Escape.{Escape}
 
@@ -39,14 +40,15 @@ Agrees d σ τ = (i : ℕ) → i < d → τ i ≡ σ i
 abbrev pub KeepsBy : Certificate → Command → Casting → Type 0
 KeepsBy c m σ = Keeps c (renewed m.steps) (cast_state c σ) (outcome_of c m σ)
 
--- closed, as far as castings agree with this one
-abbrev pub ClosedFrom : (covers : (k a b : ℕ) → Bool) → Certificate → Command → Casting → (d : ℕ) → Type 0
-ClosedFrom covers c m σ d = (τ : Casting) → Casts c m τ → Passes covers m (cast_state c τ) → Agrees d σ τ → KeepsBy c m τ
+-- closed, as far as castings agree with this one, and from parameter d on come at the place or after it
+abbrev pub ClosedFrom : (covers : (k a b : ℕ) → Bool) → Certificate → Command → Casting → (d : ℕ) → (place : List ℕ) → Type 0
+ClosedFrom covers c m σ d place =
+    (τ : Casting) → Casts c m τ → Passes covers m (cast_state c τ) → Agrees d σ τ → ComesAt c τ d place → KeepsBy c m τ
 
 -- the same of those that also give parameter d this stamp, or none
-abbrev pub ClosedWith : (covers : (k a b : ℕ) → Bool) → Certificate → Command → Casting → (d : ℕ) → Option Stamp → Type 0
-ClosedWith covers c m σ d stamp =
-    (τ : Casting) → Casts c m τ → Passes covers m (cast_state c τ) → Agrees d σ τ → τ d ≡ stamp → KeepsBy c m τ
+abbrev pub ClosedWith : (covers : (k a b : ℕ) → Bool) → Certificate → Command → Casting → (d : ℕ) → (place : List ℕ) → Option Stamp → Type 0
+ClosedWith covers c m σ d place stamp =
+    (τ : Casting) → Casts c m τ → Passes covers m (cast_state c τ) → Agrees d σ τ → ComesAt c τ d place → τ d ≡ stamp → KeepsBy c m τ
 
 -- a condition fails on this casting
 abbrev pub BreachBy : Certificate → Command → Casting → Breach → Type 0

@@ -4,4 +4,5 @@ pub mod Closure
 pub mod Conditions
 pub mod Escapes
 pub mod Numbers
+pub mod Places
 pub mod Shifts

@@ -9,12 +9,14 @@ ghost use Rattle.castings.specs.Castings.{cast_state};
 ghost use Rattle.castings.specs.Closure.{Closed};
 ghost use Rattle.castings.specs.Escapes.{IsEscape};
 ghost use Rattle.castings.specs.Numbers.{stamps_by};
+ghost use Rattle.castings.specs.Places.{ClosedAt};
 ghost use Rattle.castings.specs.Shifts.{Known};
 
 use crate::escape::{Breach, Escape};
 use crate::keeping::{cells_kept, numbers_after};
 use crate::moving::moves_kept;
 use crate::numbers::{Numbers, bound, is_cast, seen, suits};
+use crate::places::{FIRST, Place, first_at, rest_of};
 use crate::readiness::ready_pass;
 use crate::shifts::Shifts;
 use certificates::certificate::Certificate;
@@ -29,11 +31,24 @@ use scheme::test::Parameter;
 pub fn first_escape<S: Scales>(certificate: &Certificate, command: &Command) -> Option<Escape>
     ensures { MatchOption result (Closed S.Scales.covering (certificate_of certificate.now) (view command.now)) (IsEscape S.Scales.covering (certificate_of certificate.now) (view command.now)) }
 {
-    let shifts = Shifts::of(certificate);
-    closed_from::<S>(certificate, &shifts, command, [None; PARAMETERS], 0).err()
+    first_escape_from::<S>(certificate, command, FIRST)
 }
 
-// The same of those castings that give the parameters below `d` the stamps of these numbers.
+// The same of those castings that come at this place or after it. What counts is what none means: which escape is shown is free, and
+// it may also come before the place.
+pub fn first_escape_from<S: Scales>(
+    certificate: &Certificate,
+    command: &Command,
+    place: Place,
+) -> Option<Escape>
+    ensures { MatchOption result (ClosedAt S.Scales.covering (certificate_of certificate.now) (view command.now) place) (IsEscape S.Scales.covering (certificate_of certificate.now) (view command.now)) }
+{
+    let shifts = Shifts::of(certificate);
+    closed_from::<S>(certificate, &shifts, command, [None; PARAMETERS], 0, &place).err()
+}
+
+// The same of those castings that give the parameters below `d` the stamps of these numbers, and come from `d` on at this place or
+// after it.
 #[cycle(castings)]
 fn closed_from<S: Scales>(
     certificate: &Certificate,
@@ -41,21 +56,30 @@ fn closed_from<S: Scales>(
     command: &Command,
     numbers: Numbers,
     d: Parameter,
+    place: &[usize],
 ) -> Result<(), Escape>
     requires known { Known (certificate_of certificate.now) shifts.now.rows }
     requires few { d ≤ 3 }
     requires suits { SuitsBelow (certificate_of certificate.now) (view command.now) (stamps_by (certificate_of certificate.now) numbers) d }
     requires passes { ReadyPass S.Scales.covering (view command.now) (cast_state (certificate_of certificate.now) (stamps_by (certificate_of certificate.now) numbers)) d }
-    ensures { MatchResult result (λ _. ClosedFrom S.Scales.covering (certificate_of certificate.now) (view command.now) (stamps_by (certificate_of certificate.now) numbers) d) (IsEscape S.Scales.covering (certificate_of certificate.now) (view command.now)) }
+    ensures { MatchResult result (λ _. ClosedFrom S.Scales.covering (certificate_of certificate.now) (view command.now) (stamps_by (certificate_of certificate.now) numbers) d place.now) (IsEscape S.Scales.covering (certificate_of certificate.now) (view command.now)) }
 {
     if usize::from(d) >= PARAMETERS {
         return kept(certificate, shifts, command, numbers);
     }
     if !is_cast(command, d) {
-        return closed_with::<S>(certificate, shifts, command, numbers, d, None);
+        return closed_with::<S>(certificate, shifts, command, numbers, d, place, None);
     }
-    for number in 0..certificate.stamps().len() {
-        closed_with::<S>(certificate, shifts, command, numbers, d, Some(number))?;
+    for number in first_at(place)..certificate.stamps().len() {
+        closed_with::<S>(
+            certificate,
+            shifts,
+            command,
+            numbers,
+            d,
+            place,
+            Some(number),
+        )?;
     }
     Ok(())
 }
@@ -68,12 +92,13 @@ fn closed_with<S: Scales>(
     command: &Command,
     numbers: Numbers,
     d: Parameter,
+    place: &[usize],
     number: Option<usize>,
 ) -> Result<(), Escape>
     requires known { Known (certificate_of certificate.now) shifts.now.rows }
     requires few { d < 3 }
     requires suits { SuitsBelow (certificate_of certificate.now) (view command.now) (stamps_by (certificate_of certificate.now) numbers) d }
-    ensures { MatchResult result (λ _. ClosedWith S.Scales.covering (certificate_of certificate.now) (view command.now) (stamps_by (certificate_of certificate.now) numbers) d (stamp_at (certificate_of certificate.now) number)) (IsEscape S.Scales.covering (certificate_of certificate.now) (view command.now)) }
+    ensures { MatchResult result (λ _. ClosedWith S.Scales.covering (certificate_of certificate.now) (view command.now) (stamps_by (certificate_of certificate.now) numbers) d place.now (stamp_at (certificate_of certificate.now) number)) (IsEscape S.Scales.covering (certificate_of certificate.now) (view command.now)) }
 {
     if !suits(certificate, command, d, number) {
         return Ok(());
@@ -82,7 +107,14 @@ fn closed_with<S: Scales>(
     if !ready_pass::<S>(&seen(certificate, numbers), command.tests(), d + 1) {
         return Ok(());
     }
-    closed_from::<S>(certificate, shifts, command, numbers, d + 1)
+    closed_from::<S>(
+        certificate,
+        shifts,
+        command,
+        numbers,
+        d + 1,
+        rest_of(place, number),
+    )
 }
 
 // Whether what the command makes of this casting is allowed.

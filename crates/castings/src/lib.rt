@@ -6,5 +6,7 @@ pub mod escape;
 mod keeping;
 mod moving;
 mod numbers;
+pub mod places;
 mod readiness;
+mod seeing;
 mod shifts;

@@ -8,4 +8,6 @@ mod breaches;
 #[cfg(test)]
 mod largest;
 #[cfg(test)]
+mod places;
+#[cfg(test)]
 mod samples;

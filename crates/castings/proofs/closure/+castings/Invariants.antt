@@ -16,4 +16,4 @@ abbrev pub invariant-closed_from-loop-number : goal.invariant-closed_from-loop-n
 invariant-closed_from-loop-number g l =
     (k : ℕ)
     → k < l.number
-    → ClosedWith g.S.Scales.covering (certificate_of l.certificate) (view l.command) (stamps_by (certificate_of l.certificate) l.numbers) l.d (stamp_at (certificate_of l.certificate) (Some k))
+    → ClosedWith g.S.Scales.covering (certificate_of l.certificate) (view l.command) (stamps_by (certificate_of l.certificate) l.numbers) l.d l.place (stamp_at (certificate_of l.certificate) (Some k))
