@@ -1,0 +1,10 @@
+pub mod Allowed
+pub mod Back
+pub mod Below
+pub mod Buffers
+pub mod Forming
+pub mod Lawful
+pub mod Lengths
+pub mod Sizes
+pub mod Spelling
+pub mod Written
