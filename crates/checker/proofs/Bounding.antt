@@ -19,7 +19,7 @@ filled_by m r h =
     (λ (other : m ≡ 0 → ⊥). omega (arith, other))
     (cases_eq m 0)
 
-within_nothing : (m : ℕ) → Within m 0 → m ≡ 0
+pub within_nothing : (m : ℕ) → Within m 0 → m ≡ 0
 within_nothing m within =
     same_from_bits m 0
     (λ q.

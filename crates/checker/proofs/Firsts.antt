@@ -20,7 +20,7 @@ use Rattle.checker.specs.Judgements.{ClosedUnderAll, MeetsNone}
 use Rattle.checker.proofs.Excluding.{closed_no_escape}
 
 -- the command of a number, as a loop reads it
-command_at : (commands : List Command) (items : List Stored) (n : ℕ) (m : Stored) → map view items ≡ commands → n < length items → m ≡ get_or items n m → slice_get commands n ≡ Some (view m)
+pub command_at : (commands : List Command) (items : List Stored) (n : ℕ) (m : Stored) → map view items ≡ commands → n < length items → m ≡ get_or items n m → slice_get commands n ≡ Some (view m)
 command_at commands items n m same low is =
     ap (λ xs. slice_get xs n) (sym same) ∙ slice_get-map view items n ∙ ap (option_map view) (slice_get_read items (length items) n m refl low is)
 

@@ -13,7 +13,7 @@ use Rattle.checker.specs.declared.flaw.Stray.{Stray}
 use Rattle.checker.specs.Containing.{Contains, unlisted, CellInside, RowInside, NameInside, AtFault}
 
 -- an empty cell holds nothing
-empty_inside : (m n : ℕ) → m ≡ 0 → Within m n
+pub empty_inside : (m n : ℕ) → m ≡ 0 → Within m n
 empty_inside m n empty right h = absurd (both_ways (has 0 right) (holds_nothing right) (rw empty at h))
 
 listed_of : (c : Certificate) (entry : Option Stamp) (s : Stamp) → unlisted c entry ≡ false → entry ≡ Some s → lists c s ≡ true

@@ -35,13 +35,13 @@ use Rattle.checker.proofs.Answering.{one_check}
 use Rattle.checker.proofs.Closing.{closed_of, closed_by}
 use Rattle.checker.proofs.Computing.{holds_of, contained_by, unmet_of, unmet_by}
 
-abbrev grade_3 : Stamp
+abbrev pub grade_3 : Stamp
 grade_3 = stamp_of Subject (Some 3) None None None
 
-abbrev grade_1 : Stamp
+abbrev pub grade_1 : Stamp
 grade_1 = stamp_of Subject (Some 1) None None None
 
-abbrev thing : Stamp
+abbrev pub thing : Stamp
 thing = stamp_of Object None None None None
 
 -- ---- it is contained
@@ -58,7 +58,7 @@ no_cell n o =
     (λ (row : 3 ≤ n). rw (ne_eqb n 0 (λ e. omega arith)) refl)
     (λ (column : 3 ≤ o). rw (ne_eqb o 1 (λ e. omega arith), ne_eqb o 2 (λ e. omega arith), and_right (eqb n 0) false refl) refl)
 
-contains : Contains kiosk_certificate kiosk_state
+pub contains : Contains kiosk_certificate kiosk_state
 contains = contained_by kiosk_certificate kiosk_state holds no_entry no_cell
 
 -- ---- it is closed under the kiosk's commands
@@ -87,11 +87,11 @@ right_1_unmet : unmet_of kiosk_certificate right_1_ban ≡ true
 unfolding has
 right_1_unmet = refl
 
-right_0_met : Meets kiosk_certificate right_0_ban
+pub right_0_met : Meets kiosk_certificate right_0_ban
 unfolding has
 right_0_met = (grade_1, thing, record { row = refl; column = refl; fit = refl; held = refl })
 
-none_met : (number : ℕ) → BanMet kiosk_certificate (right_1_ban ∷ []) number → ⊥
+pub none_met : (number : ℕ) → BanMet kiosk_certificate (right_1_ban ∷ []) number → ⊥
 none_met zero met = unmet_by kiosk_certificate right_1_ban right_1_unmet (subst (Meets kiosk_certificate) (sym (same_Some right_1_ban met.0 met.1)) met.2)
 none_met (suc number) met = none-some met.0 met.1
 
@@ -124,11 +124,11 @@ escapes covers = record {
 
 -- ---- what is judged of it
 
-no_lower : (P : ℕ → Type 0) (m : ℕ) → m < 0 → P m → ⊥
+pub no_lower : (P : ℕ → Type 0) (m : ℕ) → m < 0 → P m → ⊥
 no_lower P m lt h = omega arith
 
 module _ (k : Kept) (covers : k.covers ≡ kiosk_covers) (commands : k.commands ≡ kiosk_commands) where
-  closed : ClosedUnderAll k kiosk_certificate
+  pub closed : ClosedUnderAll k kiosk_certificate
   closed number m is =
       subst (λ f. Closed f kiosk_certificate m) (sym covers)
       (closed_at number m (ap (λ l. slice_get l number) (sym commands) ∙ is))
@@ -145,7 +145,7 @@ escaped_judged k bans commands =
 
 -- ---- from the tapes
 
-kiosk_commands_are : (k : Kept) → KioskOnBoard k → k.commands ≡ kiosk_commands
+pub kiosk_commands_are : (k : Kept) → KioskOnBoard k → k.commands ≡ kiosk_commands
 kiosk_commands_are k on =
     let one : accepted k.commands ≡ accepted kiosk_commands = (worked_kiosk.scheme (accepted k.commands)).0 (subst (λ (c : Counts). SchemeRead c kiosk_scheme (accepted k.commands)) on.counts on.scheme) in
     cc

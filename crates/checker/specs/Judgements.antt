@@ -1,5 +1,5 @@
 -- What is to be said of a certificate and bans, on a register as it stands.
-use Rattle.std.specs.Prelude.{◌≡◌, ℕ, List, Some, slice_get}
+use Rattle.std.specs.Prelude.{◌≡◌, ℕ, Bool, List, Some, slice_get}
 use Rattle.model.specs.Answers.{Answer, accepted, refused}
 use Rattle.model.specs.Lowest.{Lowest}
 use Rattle.scheme.specs.Commands.{Command}
@@ -13,9 +13,13 @@ use Rattle.castings.specs.Escapes.{IsEscape}
 use Rattle.register.specs.States.{Kept}
 use Rattle.checker.specs.Containing.{Contains, AtFault}
 
--- closed under each command that the register keeps
+-- closed under each command of a list
+abbrev pub ClosedUnderEach : (covers : (k a b : ℕ) → Bool) → List Command → Certificate → Type 0
+ClosedUnderEach covers commands c = (number : ℕ) (m : Command) → slice_get commands number ≡ Some m → Closed covers c m
+
+-- and under each that the register keeps
 abbrev pub ClosedUnderAll : Kept → Certificate → Type 0
-ClosedUnderAll k c = (number : ℕ) (m : Command) → slice_get k.commands number ≡ Some m → Closed k.covers c m
+ClosedUnderAll k c = ClosedUnderEach k.covers k.commands c
 
 -- the command with this number has a casting that escapes
 abbrev pub NotClosed : Kept → Certificate → (number : ℕ) → Type 0
