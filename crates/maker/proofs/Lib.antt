@@ -1,0 +1,17 @@
+pub mod Answering
+pub mod Comparing
+pub mod Completing
+pub mod Counting
+pub mod Enlisting
+pub mod Granting
+pub mod Growths
+pub mod Handing
+pub mod Lifting
+pub mod Making
+pub mod Meeting
+pub mod Needing
+pub mod OneMaking
+pub mod Refusing
+pub mod Rooms
+pub mod Sameness
+pub mod Taking

@@ -1,0 +1,3 @@
+pub mod Lives
+pub mod Promises
+pub mod Worked
