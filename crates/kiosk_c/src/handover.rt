@@ -5,10 +5,9 @@ ghost use Rattle.kiosk_c.specs.Codes.{OpenedThenChecked, Handed, Coded, OneCode,
 ghost use Rattle.kiosk_c.specs.Worked.{WorkedCodes};
 
 use crate::code::code;
-use checker::check::check;
 use model::fault::Fault;
 use model::scales::KioskScales;
-use register::register::Register;
+use promise::calls::{begin, check, open};
 use rulings::matrix::MatrixRuling;
 use scheme_tape::lawful::LawfulScheme;
 use scheme_tape::reader::read_scheme;
@@ -24,8 +23,8 @@ fn check_on(
 ) -> Result<(), Fault>
     ensures { OpenedThenChecked (commands_of scheme.scheme) opening.now certificate.now bans.now (answer (λ done. done) result) }
 {
-    let mut register = Register::new(scheme, board, MatrixRuling);
-    register.open(opening)?;
+    let mut register = begin(scheme, board, MatrixRuling);
+    open(&mut register, opening)?;
     check(&register, certificate, bans)
 }
 

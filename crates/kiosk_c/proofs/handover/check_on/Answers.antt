@@ -10,10 +10,10 @@ use Rattle.kiosk_c.proofs.handover.check_on.Goals as goal
 pub returns-in_err-open : goal.returns-in_err-open
 returns-in_err-open c =
     let p = err_from_is_err_and c.from_residual.result c.from_residual.ensures.1 in
-    rw (p.1, p.2) (bad_opening _ _ _ _ (subst (λ k. Opens k c.args.opening.now (refusal c.in_err-open.field-0.0) (state_of c.open.new.self)) c.new-register.ensures.kept c.in_err-open.ensures.opens) refl)
+    rw (p.1, p.2) (bad_opening _ _ _ _ (subst (λ k. Opens k c.args.opening.now (refusal c.in_err-open.field-0.0) (state_of c.open.new.register)) c.begin-register.ensures.kept c.in_err-open.ensures.opens) refl)
 
 pub returns : goal.returns
 returns c =
-    checked (state_of c.open.new.self)
-    (subst (λ k. Opens k c.args.opening.now (accepted tt) (state_of c.open.new.self)) c.new-register.ensures.kept c.in_ok-open.ensures.opens)
-    (subst (λ k. Checked k (state_of c.open.new.self) c.args.certificate.now c.args.bans.now (answer (λ done. done) c.check.result)) (c.in_ok-open.ensures.kept ∙ c.new-register.ensures.kept) c.check.ensures.check)
+    checked (state_of c.open.new.register)
+    (subst (λ k. Opens k c.args.opening.now (accepted tt) (state_of c.open.new.register)) c.begin-register.ensures.kept c.in_ok-open.ensures.opens)
+    (subst (λ k. Checked k (state_of c.open.new.register) c.args.certificate.now c.args.bans.now (answer (λ done. done) c.check.result)) (c.in_ok-open.ensures.kept ∙ c.begin-register.ensures.kept) c.check.ensures.check)
