@@ -11,6 +11,13 @@ found_at P is found = subst (Finds P) is found
 pub none_at : {X : Type 0} (P : X → Type 0) {o : Option X} → o ≡ None → Finds P o → (x : X) → P x → ⊥
 none_at P is found = subst (Finds P) is found
 
+-- the same where the answer is seen through `view`
+pub seen_at : {T X : Type 0} (view : T → X) (P : X → Type 0) {o : Option T} {x : T} → o ≡ Some x → Finds P (option_map view o) → P (view x)
+seen_at view P is found = subst (λ o. Finds P (option_map view o)) is found
+
+pub none_seen : {T X : Type 0} (view : T → X) (P : X → Type 0) {o : Option T} → o ≡ None → Finds P (option_map view o) → (x : X) → P x → ⊥
+none_seen view P is found = subst (λ o. Finds P (option_map view o)) is found
+
 -- the exit of a `?`
 pub finds_none : {X : Type 0} (P : X → Type 0) (o : Option X) → o ≡ None → ((x : X) → P x → ⊥) → Finds P o
 finds_none P o e none = subst (Finds P) (sym e) none

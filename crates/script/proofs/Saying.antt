@@ -8,10 +8,11 @@ use Rattle.script.specs.Hex.{Spells}
 use Rattle.script.specs.Settings.{Sized, Filters}
 use Rattle.script.specs.Series.{Series}
 use Rattle.script.specs.Sides.{SpellsBoth}
+use Rattle.script.specs.Making.{Buffered}
 use Rattle.script.specs.Keywords.{spelling}
-use Rattle.script.specs.Calls.{Call, nothing, scheme, list, board, records, filter, «open», request, rule, state, check, Asks, asks_scheme, asks_list, asks_board, asks_records, asks_filter, asks_open, asks_request, asks_rule, asks_state, asks_check, Says, blank_line, remark_line, call_line, OneCall, silent}
+use Rattle.script.specs.Calls.{Call, nothing, scheme, list, board, records, filter, «open», request, rule, state, check, make, table, Asks, asks_scheme, asks_list, asks_board, asks_records, asks_filter, asks_open, asks_request, asks_rule, asks_state, asks_check, asks_make, asks_table, Says, blank_line, remark_line, call_line, OneCall, silent}
 use Rattle.script.proofs.Spelling.{one_spelling}
-use Rattle.script.proofs.Giving.{one_size, board_or_list, one_filter}
+use Rattle.script.proofs.Giving.{one_size, board_or_list, one_filter, one_buffer}
 use Rattle.script.proofs.Leading.{one_series}
 use Rattle.script.proofs.Siding.{one_both}
 use Rattle.script.proofs.Parting.{margin, margin_blanks, margin_whole, past_margin, blanks_past, past_none, begins_with, begun_by, word_is, one_beginning}
@@ -27,6 +28,8 @@ Asked Keyword.Request rest call = (command : ℕ) × (names : List ℕ) × Serie
 Asked Keyword.Rule rest call = (s : ℕ) × (o : ℕ) × (r : ℕ) × Series rest (s ∷ o ∷ r ∷ []) × (call ≡ rule s o r)
 Asked Keyword.State rest call = Blanks rest × (call ≡ state)
 Asked Keyword.Check rest call = (xs : List ℕ) × (ys : List ℕ) × SpellsBoth rest xs ys × (call ≡ check xs ys)
+Asked Keyword.Make rest call = (n : ℕ) × (text : List ℕ) × (bans : List ℕ) × Buffered rest n text × Spells text bans × (call ≡ make n bans)
+Asked Keyword.Table rest call = Blanks rest × (call ≡ table)
 
 pub asked : {key : Keyword} {rest : List ℕ} {call : Call} → Asks key rest call → Asked key rest call
 asked (asks_scheme {rest} {bytes} s) = (bytes, s, refl)
@@ -39,6 +42,8 @@ asked (asks_request {rest} {names} {command} s) = (command, names, s, refl)
 asked (asks_rule {rest} {s} {o} {r} n) = (s, o, r, n, refl)
 asked (asks_state rest bs) = (bs, refl)
 asked (asks_check {rest} {certificate} {bans} s) = (certificate, bans, s, refl)
+asked (asks_make {rest} {text} {bans} {size} b s) = (size, text, bans, b, s, refl)
+asked (asks_table rest bs) = (bs, refl)
 
 one_asked : {key : Keyword} {rest : List ℕ} {c d : Call} → Asks key rest c → Asks key rest d → c ≡ d
 one_asked (asks_scheme s) q = let other = asked q in ap scheme (one_spelling _ _ _ s other.1) ∙ sym other.2
@@ -67,6 +72,11 @@ one_asked (asks_check s) q =
     let same = one_both s other.2 in
     let is = other.3 in
     cc
+one_asked (asks_make {bans = bans} {size} b s) q =
+    let other = asked q in
+    let same = one_buffer b other.3 in
+    ap (make size) (one_spelling _ _ _ (subst (λ t. Spells t bans) same.1 s) other.4) ∙ ap (λ n. make n other.2) same.0 ∙ sym other.5
+one_asked (asks_table rest bs) q = sym (asked q).1
 
 -- the keyword that is spelt so
 abbrev spelt_so : List ℕ → Keyword
@@ -78,7 +88,9 @@ spelt_so word =
     (cond (bytes_eq word (codes "open")) Keyword.Open
     (cond (bytes_eq word (codes "request")) Keyword.Request
     (cond (bytes_eq word (codes "rule")) Keyword.Rule
-    (cond (bytes_eq word (codes "state")) Keyword.State Keyword.Check)))))))
+    (cond (bytes_eq word (codes "state")) Keyword.State
+    (cond (bytes_eq word (codes "check")) Keyword.Check
+    (cond (bytes_eq word (codes "make")) Keyword.Make Keyword.Table)))))))))
 
 spelt_back : (key : Keyword) → spelt_so (spelling key) ≡ key
 spelt_back Keyword.Scheme = refl
@@ -90,6 +102,8 @@ spelt_back Keyword.Request = refl
 spelt_back Keyword.Rule = refl
 spelt_back Keyword.State = refl
 spelt_back Keyword.Check = refl
+spelt_back Keyword.Make = refl
+spelt_back Keyword.Table = refl
 
 -- two keywords are not spelt alike
 one_key : (j k : Keyword) → spelling j ≡ spelling k → j ≡ k
@@ -106,6 +120,8 @@ loud Keyword.Request rest = refl
 loud Keyword.Rule rest = refl
 loud Keyword.State rest = refl
 loud Keyword.Check rest = refl
+loud Keyword.Make rest = refl
+loud Keyword.Table rest = refl
 
 -- nor is one empty
 some : (word : List ℕ) → silent (word ++ []) ≡ false → 0 < length word

@@ -2,13 +2,14 @@
 use Rattle.std.specs.Prelude.{◌≡◌, ℕ, Bool, true, List, [], ◌∷◌, ◌++◌, Some, None, vec_items, codes, Option, ◌==◌}
 use Rattle.script.specs.declared.keyword.Keyword.{Keyword}
 use Rattle.script.specs.declared.line.Call.{Call as Asked}
-use Rattle.script.specs.declared.line.Call.TheVariants.{Scheme, List as Listing, StoreBoard, StoreList, Filter, Open, Request, Rule, State, Check}
+use Rattle.script.specs.declared.line.Call.TheVariants.{Scheme, List as Listing, StoreBoard, StoreList, Filter, Open, Request, Rule, State, Check, Make, Table}
 use Rattle.script.specs.Words.{Blanks, Begins, Alone}
 use Rattle.script.specs.Keywords.{spelling}
 use Rattle.script.specs.Hex.{Spells, Opens}
 use Rattle.script.specs.Settings.{Sized, Filters}
 use Rattle.script.specs.Series.{Series, Named}
 use Rattle.script.specs.Sides.{SpellsBoth, OpensEither}
+use Rattle.script.specs.Making.{Buffered, OpensBans}
 
 -- What a line can call for. To call for `nothing` is to be passed over.
 pub data Call : Type 0 where
@@ -30,6 +31,10 @@ pub data Call : Type 0 where
   state : Call
   -- The tapes of a certificate and of bans are checked.
   check : (certificate bans : List ℕ) → Call
+  -- A certificate is made in a buffer of this size, against the bans of a tape.
+  make : (size : ℕ) → (bans : List ℕ) → Call
+  -- The certificate that was made or accepted last is shown.
+  table : Call
 
 -- What a keyword asks for, by the text after it.
 pub data Asks : Keyword → List ℕ → Call → Type 0 where
@@ -53,6 +58,10 @@ pub data Asks : Keyword → List ℕ → Call → Type 0 where
   asks_state : (rest : List ℕ) → Blanks rest → Asks Keyword.State rest state
   -- `check` asks for a check of the two tapes that are spelt after it. Either may have no bytes.
   asks_check : {rest certificate bans : List ℕ} → SpellsBoth rest certificate bans → Asks Keyword.Check rest (check certificate bans)
+  -- `make` asks for a making with the size that is said, against the bans that are spelt, which may have no bytes.
+  asks_make : {rest text bans : List ℕ} {size : ℕ} → Buffered rest size text → Spells text bans → Asks Keyword.Make rest (make size bans)
+  -- `table` stands alone.
+  asks_table : (rest : List ℕ) → Blanks rest → Asks Keyword.Table rest table
 
 -- `Says line call`: this is what the line says. A line of which these rules show no call is unreadable.
 pub data Says : List ℕ → Call → Type 0 where
@@ -67,8 +76,8 @@ pub data Says : List ℕ → Call → Type 0 where
 abbrev pub OneCall : Type 0
 OneCall = (line : List ℕ) (c d : Call) → Says line c → Says line d → c ≡ d
 
--- Memory is wanted for the bytes of a scheme, of an opening or of the tapes of a check, if there is a first one, for the
--- names of a request, if there are a command and a first one, and for no other call.
+-- Memory is wanted for the bytes of a scheme, of an opening, of the tapes of a check or of the bans of a making, if there is a
+-- first one, for the names of a request, if there are a command and a first one, and for no other call.
 abbrev pub Wants : Keyword → List ℕ → Type 0
 Wants Keyword.Scheme rest = Opens rest
 Wants Keyword.List rest = ⊥
@@ -79,6 +88,8 @@ Wants Keyword.Request rest = Named rest
 Wants Keyword.Rule rest = ⊥
 Wants Keyword.State rest = ⊥
 Wants Keyword.Check rest = OpensEither rest
+Wants Keyword.Make rest = OpensBans rest
+Wants Keyword.Table rest = ⊥
 
 -- Memory is wanted for the call that this line begins.
 pub record Wanting (line : List ℕ) : Type 0 where
@@ -99,6 +110,8 @@ asked_call (Request command names) = request command (vec_items names)
 asked_call (Rule row column right) = rule row column right
 asked_call State = state
 asked_call (Check certificate bans) = check (vec_items certificate) (vec_items bans)
+asked_call (Make size bans) = make size (vec_items bans)
+asked_call Table = table
 
 abbrev pub call_of : Option Asked → Call
 call_of None = nothing

@@ -1,10 +1,11 @@
+pub mod Calls
 pub mod Finds
-pub mod Reads
-pub mod Words
 pub mod Hex
+pub mod Keywords
+pub mod Making
 pub mod Numbers
+pub mod Reads
 pub mod Series
 pub mod Settings
 pub mod Sides
-pub mod Keywords
-pub mod Calls
+pub mod Words

@@ -1,6 +1,6 @@
 -- What number a word of decimal digits writes.
 use Rattle.std.specs.Prelude.{◌≡◌, ℕ, ◌+◌, ◌-◌, ◌*◌, ◌^◌, ◌≤◌, if◌then◌else◌, ◌&&◌, List, [], ◌∷◌, length, Some, None, Option, nat_le}
-use Rattle.script.specs.Words.{Begins}
+use Rattle.script.specs.Words.{Begins, Alone}
 
 -- The value of a decimal digit, `0` to `9`. Any other byte has none.
 abbrev pub decimal_value : ℕ → Option ℕ
@@ -19,6 +19,13 @@ pub record Leads (text : List ℕ) (n : ℕ) (rest : List ℕ) : Type 0 where
   pub begun : Begins text word rest
   pub number : Number word n
   pub within : n ≤ 255
+
+-- `LoneNumber text n`: the text has one word, which writes the number n, 999999 at most.
+pub record LoneNumber (text : List ℕ) (n : ℕ) : Type 0 where
+  pub digits : List ℕ
+  pub alone : Alone text digits
+  pub number : Number digits n
+  pub within : n ≤ 999999
 
 -- What follows is what a reader takes off the front of a word.
 

@@ -1,17 +1,14 @@
 -- What follows `store` and `filter`.
-use Rattle.std.specs.Prelude.{ℕ, ◌≤◌, List, codes}
+use Rattle.std.specs.Prelude.{ℕ, List, codes}
 use Rattle.script.specs.Words.{Begins, Alone}
-use Rattle.script.specs.Numbers.{Number, Leads}
+use Rattle.script.specs.Numbers.{LoneNumber, Leads}
 use Rattle.script.specs.Hex.{Mask}
 
--- `Sized text n`: the text is the word `list` and one more word, which writes the number n, 999999 at most.
+-- `Sized text n`: the text is the word `list` and one more word, which writes the number n.
 pub record Sized (text : List ℕ) (n : ℕ) : Type 0 where
   pub more : List ℕ
-  pub digits : List ℕ
   pub begun : Begins text (codes "list") more
-  pub alone : Alone more digits
-  pub number : Number digits n
-  pub within : n ≤ 999999
+  pub number : LoneNumber more n
 
 -- `Filters text k m`: the text is two words. The first writes the number k, 255 at most, and the second the mask m.
 pub record Filters (text : List ℕ) (k m : ℕ) : Type 0 where

@@ -1,4 +1,4 @@
--- What follows `check`: two texts of hex digits, with a stroke between them.
+-- How a text comes apart at a stroke, and what follows `check`: two texts of hex digits with a stroke between them.
 use Rattle.std.specs.Prelude.{◌≡◌, ℕ, Bool, ◌⊎◌, List, ◌++◌, ◌==◌, codes, IsFalse, All}
 use Rattle.script.specs.Hex.{Spells, Opens}
 
@@ -9,6 +9,10 @@ stroke b = b == 47
 pub record Sides (text left right : List ℕ) : Type 0 where
   pub clear : All (λ b. IsFalse (stroke b)) left
   pub whole : text ≡ left ++ (codes "/" ++ right)
+
+-- No stroke stands in the text.
+abbrev pub Unparted : List ℕ → Type 0
+Unparted text = (left right : List ℕ) → ¬ Sides text left right
 
 -- `SpellsBoth text xs ys`: the one side spells the bytes xs, and the other ys.
 pub record SpellsBoth (text xs ys : List ℕ) : Type 0 where

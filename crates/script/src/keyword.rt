@@ -14,6 +14,8 @@ pub(crate) enum Keyword {
     Rule,
     State,
     Check,
+    Make,
+    Table,
 }
 
 // A word that is none has no error of its own, so this is no `TryFrom`.
@@ -30,6 +32,8 @@ pub(crate) fn find_keyword(word: &[u8]) -> Option<Keyword>
         b"rule" => Some(Keyword::Rule),
         b"state" => Some(Keyword::State),
         b"check" => Some(Keyword::Check),
+        b"make" => Some(Keyword::Make),
+        b"table" => Some(Keyword::Table),
         _ => None,
     }
 }

@@ -5,6 +5,7 @@ mod error;
 mod hex;
 mod keyword;
 mod line;
+mod making;
 mod number;
 mod series;
 mod settings;

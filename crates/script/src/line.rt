@@ -7,6 +7,7 @@ ghost use Rattle.script.specs.Words.{Blanks};
 use crate::error::ReadError;
 use crate::hex::read_hex;
 use crate::keyword::{Keyword, find_keyword};
+use crate::making::split_size;
 use crate::number::first_number;
 use crate::series::{read_series, three_numbers};
 use crate::settings::{filter_parts, is_board, list_size};
@@ -34,6 +35,10 @@ pub enum Call {
     State,
     // The tapes of a certificate and of bans, to be checked.
     Check { certificate: Vec<u8>, bans: Vec<u8> },
+    // A certificate is to be made in a buffer of this size, against the bans of a tape.
+    Make { size: u32, bans: Vec<u8> },
+    // The certificate that was made or accepted last is to be shown.
+    Table,
 }
 
 // A call that takes no words.
@@ -84,6 +89,14 @@ fn read_check(heap: Global, rest: &[u8]) -> Result<Call, ReadError>
     Ok(Call::Check { certificate, bans })
 }
 
+fn read_make(heap: Global, rest: &[u8]) -> Result<Call, ReadError>
+    ensures { Reads asked_call (Asks Keyword.Make rest.now) (Wants Keyword.Make rest.now) result }
+{
+    let (size, text) = split_size(rest).ok_or(ReadError::Unreadable)?;
+    let bans = read_hex(heap, text)?;
+    Ok(Call::Make { size, bans })
+}
+
 // What a keyword asks for with `rest` after it.
 fn read_call(heap: Global, key: Keyword, rest: &[u8]) -> Result<Call, ReadError>
     ensures { Reads asked_call (Asks key rest.now) (Wants key rest.now) result }
@@ -98,6 +111,8 @@ fn read_call(heap: Global, key: Keyword, rest: &[u8]) -> Result<Call, ReadError>
         Keyword::Rule => read_rule(rest),
         Keyword::State => lone_call(rest, Call::State),
         Keyword::Check => read_check(heap, rest),
+        Keyword::Make => read_make(heap, rest),
+        Keyword::Table => lone_call(rest, Call::Table),
     }
 }
 

@@ -2,9 +2,9 @@
 ghost use Rattle.std.specs.Prelude.{◌≡◌, ◌≤◌, ℕ, List};
 ghost use Rattle.std.specs.Option.{option_map};
 ghost use Rattle.script.specs.Finds.{Finds};
-ghost use Rattle.script.specs.Numbers.{decimal_value, Leads, Longer, Number};
+ghost use Rattle.script.specs.Numbers.{decimal_value, Leads, LoneNumber, Longer, Number};
 
-use crate::words::first_word;
+use crate::words::{first_word, lone_word};
 
 fn decimal(b: u8) -> Option<u32>
     ensures { result ≡ decimal_value b }
@@ -44,4 +44,11 @@ pub(crate) fn first_number(text: &[u8]) -> Option<(u8, &[u8])>
     let number = read_number(word, 255)?;
     // The bound keeps it; `try_from` would be a branch that gives up.
     Some((number as u8, rest))
+}
+
+// The number that a text of one word writes, if it is at most 999999.
+pub(crate) fn lone_number(text: &[u8]) -> Option<u32>
+    ensures { Finds (LoneNumber text.now) result }
+{
+    read_number(lone_word(text)?, 999_999)
 }

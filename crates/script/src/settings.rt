@@ -5,7 +5,7 @@ ghost use Rattle.script.specs.Settings.{Filters, Sized};
 ghost use Rattle.script.specs.Words.{Alone};
 
 use crate::hex::read_mask;
-use crate::number::{first_number, read_number};
+use crate::number::{first_number, lone_number};
 use crate::words::{first_word, lone_word};
 
 // `board`, and nothing else.
@@ -21,7 +21,7 @@ pub(crate) fn list_size(rest: &[u8]) -> Option<u32>
 {
     let (word, more) = first_word(rest)?;
     if word == b"list".as_slice() {
-        read_number(lone_word(more)?, 999_999)
+        lone_number(more)
     } else {
         None
     }

@@ -1,4 +1,4 @@
-// Reads two tapes that are written with a stroke between them.
+// Reads what is written with a stroke between.
 ghost use Rattle.std.specs.Prelude.{ℕ, List, vec_items};
 ghost use Rattle.std.specs.Option.{option_map};
 ghost use Rattle.script.specs.Finds.{Finds};
@@ -10,7 +10,7 @@ use crate::hex::read_hex;
 use std::alloc::Global;
 
 // The text before the first stroke, and the text after it.
-fn split_sides(text: &[u8]) -> Option<(&[u8], &[u8])>
+pub(crate) fn split_sides(text: &[u8]) -> Option<(&[u8], &[u8])>
     ensures { Finds (λ (p : List ℕ × List ℕ). Sides text.now p.0 p.1) (option_map (λ p. (p.0.now, p.1.now)) result) }
 {
     let end = text.iter().position(|b| *b == b'/').unwrap_or(text.len());

@@ -22,6 +22,8 @@ mod tests {
             Ok(Some(Call::Rule { .. })) => "rule",
             Ok(Some(Call::State)) => "state",
             Ok(Some(Call::Check { .. })) => "check",
+            Ok(Some(Call::Make { .. })) => "make",
+            Ok(Some(Call::Table)) => "table",
             Err(ReadError::Unreadable) => "unreadable",
             Err(ReadError::OutOfMemory(_)) => "out of memory",
         }
@@ -51,6 +53,11 @@ mod tests {
         matches!(&call, Ok(Some(Call::Check { certificate, bans })) if certificate.as_slice() == first && bans.as_slice() == second)
     }
 
+    fn is_making(heap: Global, line: &[u8], expected: u32, tape: &[u8]) -> bool {
+        let call = read_line(heap, line);
+        matches!(&call, Ok(Some(Call::Make { size, bans })) if *size == expected && bans.as_slice() == tape)
+    }
+
     fn is_list_of(heap: Global, line: &[u8], size: u32) -> bool {
         matches!(read_line(heap, line), Ok(Some(Call::StoreList(records))) if records == size)
     }
@@ -78,9 +85,10 @@ mod tests {
     }
 
     #[test]
-    fn lists_and_states(rt: HostRuntime) -> Result<(), Fail> {
+    fn words_alone(rt: HostRuntime) -> Result<(), Fail> {
         all_are(&rt, rt.alloc(), "list", &["list", "\t list \r"])?;
-        all_are(&rt, rt.alloc(), "state", &["state", "\t state \r"])
+        all_are(&rt, rt.alloc(), "state", &["state", "\t state \r"])?;
+        all_are(&rt, rt.alloc(), "table", &["table", "\t table \r"])
     }
 
     #[test]
@@ -160,6 +168,43 @@ mod tests {
     }
 
     #[test]
+    fn makings(rt: HostRuntime) -> Result<(), Fail> {
+        let heap = rt.alloc();
+        assert!(rt; is_making(heap, b"make", 5312, &[]));
+        assert!(rt; is_making(heap, b"make 60 0b", 5312, &[96, 11]));
+        assert!(rt; is_making(heap, b"make 5311 /", 5311, &[]));
+        assert!(rt; is_making(heap, b"\tmake\t006000/60fF\r", 6000, &[96, 255]));
+        assert!(rt; is_making(heap, b"make 0 / 60 01", 0, &[96, 1]));
+        assert!(rt; is_making(heap, b"make 999999/ ", 999_999, &[]));
+        Ok(())
+    }
+
+    #[test]
+    fn makings_that_cannot_be_read(rt: HostRuntime) -> Result<(), Fail> {
+        all_are(
+            &rt,
+            rt.alloc(),
+            "unreadable",
+            &[
+                "make /",
+                "make / 60",
+                "make 1000000 /",
+                "make 5312 60 / 60",
+                "make 5312 / 60 /",
+                "make 5312 // 60",
+                "make 5312 / 6",
+                "make 5312 / 6 0",
+                "make FF / 60",
+                "make -1 /",
+                "make 6",
+                "make x",
+                "make5312 /",
+                "Make",
+            ],
+        )
+    }
+
+    #[test]
     fn words_that_cannot_be_read(rt: HostRuntime) -> Result<(), Fail> {
         all_are(
             &rt,
@@ -176,6 +221,9 @@ mod tests {
                 "state 0",
                 "State",
                 "states",
+                "table 1",
+                "tables",
+                "Table",
                 "open10",
                 "Open 10",
             ],

@@ -4,7 +4,7 @@ use Rattle.script.specs.declared.line.Call.{Call as Answered}
 use Rattle.script.specs.declared.error.ReadError.{ReadError}
 use Rattle.script.specs.Words.{Blanks}
 use Rattle.script.specs.Reads.{Reads}
-use Rattle.script.specs.Calls.{Call, list, state, Asks, asks_scheme, asks_list, asks_open, asks_state, Wants, asked_call}
+use Rattle.script.specs.Calls.{Call, list, state, table, Asks, asks_scheme, asks_list, asks_open, asks_state, asks_table, Wants, asked_call}
 use Rattle.script.proofs.Refusing.{reads_like}
 use Rattle.script.proofs.Saying.{asked}
 use Rattle.script.proofs.line.read_call.Goals as goal
@@ -25,3 +25,6 @@ returns-in_ok-read_hex-in-Open c = rw c.in-Open.is (asks_open c.in_ok-read_hex-i
 
 pub returns-in-State : goal.returns-in-State
 returns-in-State c = rw c.in-State.is (lone state c.lone_call-in-State.result (asks_state _) (λ call a. asked a) c.lone_call-in-State.ensures)
+
+pub returns-in-Table : goal.returns-in-Table
+returns-in-Table c = rw c.in-Table.is (lone table c.lone_call-in-Table.result (asks_table _) (λ call a. asked a) c.lone_call-in-Table.ensures)
