@@ -1,3 +1,2 @@
-mod Carrying
 mod Answering
-mod Witnessing
+mod Carrying

@@ -1,5 +1,5 @@
 pub mod Answers
-pub mod Desks
 pub mod Checking
+pub mod Desks
 pub mod Sessions
 pub mod States

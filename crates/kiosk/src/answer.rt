@@ -8,8 +8,8 @@ use model::mask::Mask;
 use model::stamp::{Attribute, Stamp};
 use setups::setup::StoreChoice;
 
-// What is printed of the register itself is not copied: a listing and a state are named, and printed from the session.
-#[derive(Clone, Copy)]
+// What the session keeps is not copied: a listing, a state and a table are named, and printed from the session.
+#[derive(Drop)]
 pub enum Reply {
     // The scheme is accepted; so many commands it has.
     Accepted(usize),
@@ -24,6 +24,9 @@ pub enum Reply {
     State,
     // The certificate is accepted.
     Checked,
+    // A certificate is made; this is its tape.
+    Handed(Vec<u8>),
+    Table,
 }
 
 #[derive(Clone, Copy)]
@@ -37,6 +40,8 @@ pub enum Refusal {
     },
     // What is asked for takes a register, and no scheme was accepted yet.
     NoRegister,
+    // A table takes a certificate, and none was made or accepted yet.
+    NoCertificate,
     BadLine,
 }
 

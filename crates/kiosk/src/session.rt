@@ -1,16 +1,19 @@
 // What the kiosk keeps from line to line, and what it answers.
 ghost use Rattle.std.specs.Prelude.{◌≡◌, Some, MatchResult};
 ghost use Rattle.script.specs.Calls.{call_of};
-ghost use Rattle.kiosk.specs.Sessions.{kiosk_of, said, fresh, listed, shown, ruling_of, Taken, BoardChosen, ListChosen, FilterChosen, Opened, Asked, ChecksOn, WantsList, Answered, CallWants, LineAnswered, LineWants};
+ghost use Rattle.kiosk.specs.Sessions.{kiosk_of, said, fresh, listed, shown, tabled, ruling_of, Taken, BoardChosen, ListChosen, FilterChosen, Opened, Asked, Checks, Makes, WantsList, WantsBuffer, Answered, CallWants, LineAnswered, LineWants};
 
 use crate::answer::{Answer, Refusal, Reply};
 use crate::checking::show_fault;
 use crate::desk::Desk;
-use checker::check::check;
+use certificates::certificate::Certificate;
+use handing_on::checked::check_certificate;
+use handing_on::made::make_certificate;
 use model::mask::{Mask, Right};
 use model::name::Name;
 use model::scales::KioskScales;
 use model::stamp::Attribute;
+use promise::calls;
 use scheme_tape::reader::read_scheme;
 use script::{Call, ReadError, read_line};
 use setups::making::make_register;
@@ -19,11 +22,13 @@ use setups::size::ListSize;
 use std::alloc::{AllocError, Global};
 use stores::board::Board;
 
-// What is chosen for the next register, and the register of the scheme that was accepted last.
+// What is chosen for the next register, the register of the scheme that was accepted last, and the certificate that was made or
+// accepted on it last.
 #[derive(Drop)]
 pub struct Session<'a> {
     pub(crate) chosen: Setup,
     pub(crate) desk: Desk<'a>,
+    pub(crate) certificate: Option<Certificate>,
 }
 
 impl<'a> Session<'a> {
@@ -34,11 +39,12 @@ impl<'a> Session<'a> {
         Session {
             chosen: Setup::plain(),
             desk: Desk::Bare(board),
+            certificate: None,
         }
     }
 
-    // An accepted scheme makes the session's register, with what is chosen; a refused one leaves the old. Memory can be wanting
-    // only for the records of a list; then there is no session any more.
+    // An accepted scheme makes the session's register, with what is chosen, and no certificate is kept for it yet; a refused one
+    // leaves the old. Memory can be wanting only for the records of a list; then there is no session any more.
     fn take_scheme(self, heap: Global, tape: &[u8]) -> Result<(Session<'a>, Answer), AllocError>
         ensures { MatchResult result (λ p. Taken (kiosk_of self.entry) tape.now (said (kiosk_of p.0) (Some p.1)) (kiosk_of p.0)) (λ _. WantsList (kiosk_of self.entry) tape.now) }
     {
@@ -47,11 +53,12 @@ impl<'a> Session<'a> {
             Err(fault) => return Ok((self, Err(Refusal::Fault(fault)))),
         };
         let commands = scheme.commands().len();
-        let Session { chosen, desk } = self;
+        let Session { chosen, desk, .. } = self;
         let register = make_register(heap, scheme, &chosen, desk.into_board())?;
         let session = Session {
             chosen,
             desk: Desk::Made(register, chosen),
+            certificate: None,
         };
         Ok((session, Ok(Reply::Accepted(commands))))
     }
@@ -101,7 +108,9 @@ impl<'a> Session<'a> {
     {
         match &self.desk {
             Desk::Bare(_) => Err(Refusal::NoRegister),
-            Desk::Made(register, _) => Ok(Reply::Ruled(register.allows(row, column, right))),
+            Desk::Made(register, _) => {
+                Ok(Reply::Ruled(calls::rule(register, row, column, right)))
+            }
         }
     }
 
@@ -111,7 +120,7 @@ impl<'a> Session<'a> {
         match &mut self.desk {
             Desk::Bare(_) => Err(Refusal::NoRegister),
             Desk::Made(register, _) => {
-                register.open(tape)?;
+                calls::open(register, tape)?;
                 Ok(Reply::Opened)
             }
         }
@@ -122,19 +131,52 @@ impl<'a> Session<'a> {
     {
         match &mut self.desk {
             Desk::Bare(_) => Err(Refusal::NoRegister),
-            Desk::Made(register, _) => Ok(Reply::Done(register.request(command, names)?)),
+            Desk::Made(register, _) => {
+                Ok(Reply::Done(calls::request(register, command, names)?))
+            }
         }
     }
 
-    fn check(&self, certificate: &[u8], bans: &[u8]) -> Answer
-        ensures { ChecksOn (kiosk_of self.now).made certificate.now bans.now (said (kiosk_of self.now) (Some result)) }
+    // An accepted certificate is kept, to be shown.
+    fn check(&mut self, certificate: &[u8], bans: &[u8]) -> Answer
+        ensures { Checks (kiosk_of self.old) certificate.now bans.now (said (kiosk_of self.new) (Some result)) (kiosk_of self.new) }
     {
         let Desk::Made(register, _) = &self.desk else {
             return Err(Refusal::NoRegister);
         };
-        match check(register, certificate, bans) {
-            Ok(()) => Ok(Reply::Checked),
+        match check_certificate(register, certificate, bans) {
+            Ok(accepted) => {
+                self.certificate = Some(accepted);
+                Ok(Reply::Checked)
+            }
             Err(fault) => Err(show_fault(register, certificate, bans, fault)),
+        }
+    }
+
+    // So is one that is made. Memory can be wanting for the buffer.
+    fn make(&mut self, heap: Global, size: usize, bans: &[u8]) -> Result<Answer, AllocError>
+        ensures { MatchResult result (λ answer. Makes (kiosk_of self.old) size bans.now (said (kiosk_of self.new) (Some answer)) (kiosk_of self.new)) (λ _. WantsBuffer (kiosk_of self.old).made) }
+    {
+        let Desk::Made(register, _) = &self.desk else {
+            return Ok(Err(Refusal::NoRegister));
+        };
+        let buffer = vec![in heap; 0; size]?;
+        match make_certificate(register, bans, buffer) {
+            Ok(made) => {
+                self.certificate = Some(made.certificate);
+                Ok(Ok(Reply::Handed(made.tape)))
+            }
+            Err(fault) => Ok(Err(Refusal::Fault(fault))),
+        }
+    }
+
+    fn table(&self) -> Answer
+        ensures { said (kiosk_of self.now) (Some result) ≡ tabled (kiosk_of self.now) }
+    {
+        match (&self.desk, &self.certificate) {
+            (Desk::Bare(_), _) => Err(Refusal::NoRegister),
+            (Desk::Made(_, _), None) => Err(Refusal::NoCertificate),
+            (Desk::Made(_, _), Some(_)) => Ok(Reply::Table),
         }
     }
 
@@ -156,7 +198,7 @@ impl<'a> Session<'a> {
             }
             Call::List => self.list(),
             Call::StoreBoard => self.choose_board(),
-            // A `usize` has 64 bits, so the cast keeps the number.
+            // A `usize` has 64 bits, so the casts keep the numbers.
             Call::StoreList(records) => self.choose_list(records as usize),
             Call::Filter { attribute, mask } => self.choose_filter(attribute, mask),
             Call::Open(tape) => self.open(tape.as_slice()),
@@ -166,11 +208,14 @@ impl<'a> Session<'a> {
             Call::Check { certificate, bans } => {
                 self.check(certificate.as_slice(), bans.as_slice())
             }
+            Call::Make { size, bans } => self.make(heap, size as usize, bans.as_slice())?,
+            Call::Table => self.table(),
         };
         Ok((self, Some(answer)))
     }
 
-    // Memory can be wanting for what a line writes, or for the records of a list. Then there is no session any more.
+    // Memory can be wanting for what a line writes, for the records of a list, or for the buffer of a making. Then there is no
+    // session any more.
     pub fn answer_line(
         self,
         heap: Global,

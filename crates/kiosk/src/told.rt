@@ -9,6 +9,8 @@ use crate::session::Session;
 use crate::state::StateLines;
 use flaw_words::flaw::FlawWords;
 use std::fmt;
+use table_words::table::TableWords;
+use table_words::tape::TapeWords;
 use words::InWords;
 use words::listing::Listings;
 use words::mask::MaskDigits;
@@ -25,7 +27,7 @@ impl fmt::Display for Told<'_, '_> {
 
     fn fmt<W: fmt::Write>(&self, f: &mut fmt::Formatter<W>) -> fmt::Result {
         let desk = &self.session.desk;
-        match self.reply {
+        match &self.reply {
             Reply::Accepted(count) => write!(f, "ok -- the scheme is accepted; commands: {count}"),
             Reply::Listing => match desk {
                 Desk::Bare(_) => write!(f, "{}", Refusal::NoRegister),
@@ -41,7 +43,7 @@ impl fmt::Display for Told<'_, '_> {
             Reply::FilterChosen { attribute, mask } => write!(
                 f,
                 "ok -- the next register filters by attribute {attribute}; rights: {}",
-                MaskDigits(mask)
+                MaskDigits(*mask)
             ),
             Reply::Opened => write!(f, "ok -- the register is open"),
             Reply::Done(count) => write!(f, "ok {count}"),
@@ -55,6 +57,11 @@ impl fmt::Display for Told<'_, '_> {
                 f,
                 "ok -- the certificate is accepted: it holds after every request"
             ),
+            Reply::Handed(tape) => write!(f, "ok {}", TapeWords(tape.as_slice())),
+            Reply::Table => match &self.session.certificate {
+                None => write!(f, "{}", Refusal::NoCertificate),
+                Some(certificate) => write!(f, "{}", TableWords(certificate)),
+            },
         }
     }
 }
@@ -74,6 +81,7 @@ impl fmt::Display for Refusal {
                 write!(f, "{fault}: {flaw}")
             }
             Refusal::NoRegister => write!(f, "error no register"),
+            Refusal::NoCertificate => write!(f, "error no certificate"),
             Refusal::BadLine => write!(f, "error bad line"),
         }
     }
