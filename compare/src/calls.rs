@@ -5,6 +5,7 @@ use crate::register::Register;
 use crate::ruling::Filters;
 use crate::scheme::Scheme;
 use crate::store::Store;
+use crate::tape;
 
 /// What a call is handed.
 #[derive(Clone, Debug, Default)]
@@ -28,15 +29,14 @@ impl Tapes {
         let scheme = Scheme::read(&self.scheme)?;
         let mut register = Register::new(scheme, Store::Board, Filters::default());
         register.open(&self.opening)?;
-        register.check(&self.certificate, &self.bans)
+        register.check(&self.certificate, &self.bans)?;
+        Ok(())
     }
 
     /// The line that hands the tapes to the C program.
     pub fn line(&self) -> String {
-        let digits =
-            |tape: &Vec<u8>| -> String { tape.iter().map(|it| format!("{it:02X}")).collect() };
         [&self.scheme, &self.opening, &self.certificate, &self.bans]
-            .map(digits)
+            .map(|tape| tape::digits(tape))
             .join(" / ")
     }
 }

@@ -1,7 +1,8 @@
 //! Certificates, and how they are read from a tape.
 
-use crate::entry::{Attributes, Kind, Mask, Stamp};
+use crate::entry::{Attribute, Attributes, Kind, Mask, Stamp, NULL};
 use crate::fault::{Fault, Layer, Rule};
+use crate::scale::Value;
 use crate::tape::{Code, Order, Orders};
 
 /// No certificate lists more stamps.
@@ -49,6 +50,34 @@ impl Certificate {
             (Some(row), Some(column)) => self.between(row, column),
             _ => Mask::EMPTY,
         }
+    }
+
+    /// The pairs of numbers of which the first is allowed something on the second, by rising numbers.
+    pub fn pairs(&self) -> impl Iterator<Item = (usize, usize, Mask)> + '_ {
+        let numbers = || 0..self.stamps.len();
+        numbers()
+            .flat_map(move |row| numbers().map(move |column| (row, column)))
+            .map(|(row, column)| (row, column, self.between(row, column)))
+            .filter(|(_, _, mask)| !mask.is_empty())
+    }
+
+    /// The tape that lists this and is written as made certificates are: first the stamps, and then each of the pairs.
+    pub fn tape(&self) -> Vec<u8> {
+        let stamps = self.stamps.iter().flat_map(stamp_order);
+        let pairs = self.pairs();
+        let pairs = pairs.flat_map(|(row, column, mask)| pair_order(row, column, mask.bits()));
+        stamps.chain(pairs).collect()
+    }
+
+    /// Whether the other lists the same stamps, in whatever order, and allows the same between them.
+    pub fn says_the_same(&self, other: &Certificate) -> bool {
+        let allows_the_same = |row| {
+            let mut columns = self.stamps.iter();
+            columns.all(|column| self.allows(row, column) == other.allows(row, column))
+        };
+        self.stamps.len() == other.stamps.len()
+            && self.stamps.iter().all(|it| other.stamps.contains(it))
+            && self.stamps.iter().all(allows_the_same)
     }
 
     /// Lists one stamp more, or says the lowest rule that it breaks.
@@ -104,6 +133,27 @@ fn read_stamp(operands: [u8; 5]) -> Option<Stamp> {
         kind,
         attributes: Attributes::read(attributes)?,
     })
+}
+
+/// The order that lists a stamp.
+pub fn stamp_order(stamp: &Stamp) -> [u8; 6] {
+    let kind = match stamp.kind {
+        Kind::Card => 1,
+        Kind::Thing => 2,
+    };
+    let mut order = [0x50, kind, NULL, NULL, NULL, NULL];
+    for attribute in Attribute::ALL {
+        let value = stamp.attributes.get(attribute);
+        order[2 + attribute.index()] = value.map_or(NULL, Value::number);
+    }
+    order
+}
+
+/// The order that adds a mask to what a stamp is allowed on a stamp.
+pub fn pair_order(row: usize, column: usize, mask: u16) -> [u8; 5] {
+    let number = |it: usize| u8::try_from(it).unwrap_or(NULL);
+    let [high, low] = mask.to_be_bytes();
+    [0x51, number(row), number(column), high, low]
 }
 
 /// The number that some stamp may have, whether there is one or not.

@@ -8,13 +8,14 @@ use crate::fault::{Fault, Layer, Rule};
 use crate::register::Protection;
 use crate::scheme::{Command, Parameter, Scheme};
 
-/// Checks the certificate and the bans of two tapes on what a register of this scheme holds.
+/// Checks the certificate and the bans of two tapes on what a register of this scheme holds, and answers the certificate
+/// that it accepts.
 pub fn check(
     scheme: &Scheme,
     held: &Protection,
     certificate: &[u8],
     bans: &[u8],
-) -> Result<(), Fault> {
+) -> Result<Certificate, Fault> {
     let certificate = Certificate::read(certificate)?;
     let bans = ban::read(bans)?;
     if let Some(name) = first_stray(&certificate, held) {
@@ -27,7 +28,7 @@ pub fn check(
     }
     match bans.iter().position(|ban| ban.is_met(&certificate)) {
         Some(ban) => Err(refused(Rule::BanMet, ban)),
-        None => Ok(()),
+        None => Ok(certificate),
     }
 }
 

@@ -1,5 +1,6 @@
 //! Puts scripts to a program, and finds the first line that it answers otherwise than the engine.
 
+use std::collections::BTreeMap;
 use std::env;
 use std::ffi::OsStr;
 use std::fmt;
@@ -12,8 +13,11 @@ use std::thread;
 use std::time::{Duration, Instant};
 
 use crate::calls::Tapes;
+use crate::certificate::Certificate;
 use crate::generator::{self, Manner};
-use crate::session::{self, Answer, Answered};
+use crate::printed::{Otherwise, Printed};
+use crate::second::Second;
+use crate::session::{self, Answered};
 use crate::worked::{self, Worked};
 
 /// How long a program may take for one script.
@@ -58,15 +62,15 @@ pub struct Difference {
 }
 
 impl Difference {
-    fn at(answered: &Answered<'_>, wanted: &str, given: Option<String>) -> Self {
+    fn at(answered: &Answered<'_>, otherwise: Otherwise) -> Self {
         let line = (
             answered.number,
             String::from_utf8_lossy(answered.line).into_owned(),
         );
         Difference {
             line: Some(line),
-            wanted: Some(wanted.to_owned()),
-            given,
+            wanted: Some(otherwise.wanted),
+            given: otherwise.given,
         }
     }
 }
@@ -99,6 +103,10 @@ pub enum Failure {
     Late,
     Ended(ExitStatus),
     Differs(Box<Difference>),
+    /// By the check of the line of this number, what the program made is not accepted, or not the least that is.
+    NotLeast(usize),
+    /// It failed on the script that asks about what it made.
+    Second(Vec<u8>, Box<Failure>),
     /// Not the program, but the engine itself answers a worked script otherwise than expected.
     Unexpected(Box<Difference>),
 }
@@ -115,6 +123,15 @@ impl fmt::Display for Failure {
             ),
             Failure::Ended(status) => write!(f, "the program did not end well: {status}"),
             Failure::Differs(difference) => write!(f, "{difference}"),
+            Failure::NotLeast(number) => write!(
+                f,
+                "line {number}, which both answer alike, shows that what was made is not the least that is accepted"
+            ),
+            Failure::Second(script, failure) => write!(
+                f,
+                "{failure}\nso it was when it was asked about what it made, by this script:\n{}",
+                String::from_utf8_lossy(script)
+            ),
             Failure::Unexpected(difference) => {
                 write!(f, "the engine is wrong; in what follows its answers are wanted, and the expected ones given: {difference}")
             }
@@ -176,12 +193,38 @@ impl Program {
         command.spawn().map_err(Failure::Start)
     }
 
-    /// Whether the program answers this script as the engine does.
+    /// Whether the program answers this script as the engine does, and what it made is the least that its own checks
+    /// accept.
     pub fn check(&self, script: &[u8], feed: Feed) -> Result<(), Failure> {
+        let answers: Vec<Answered> = session::answers(script).collect();
+        let makings = self.makings(script, &answers, feed)?;
+        if makings.is_empty() {
+            return Ok(());
+        }
+        let second = Second::of(script, &makings);
+        self.check_second(&second, feed)
+            .map_err(|failure| Failure::Second(second.script(), Box::new(failure)))
+    }
+
+    fn check_second(&self, second: &Second, feed: Feed) -> Result<(), Failure> {
+        let script = second.script();
+        let answers: Vec<Answered> = session::answers(&script).collect();
+        self.makings(&script, &answers, feed)?;
+        match second.first_wrong(&answers) {
+            None => Ok(()),
+            Some(answered) => Err(Failure::NotLeast(answered.number)),
+        }
+    }
+
+    /// What the program makes at the lines of a script, where it answers all of them as the engine does.
+    fn makings(
+        &self,
+        script: &[u8],
+        answers: &[Answered<'_>],
+        feed: Feed,
+    ) -> Result<BTreeMap<usize, Certificate>, Failure> {
         let output = self.output(script, feed)?;
-        first_difference(script, &output).map_or(Ok(()), |difference| {
-            Err(Failure::Differs(Box::new(difference)))
-        })
+        makings(answers, &output).map_err(|it| Failure::Differs(Box::new(it)))
     }
 }
 
@@ -219,61 +262,33 @@ fn read_output(mut stdout: ChildStdout) -> Result<Vec<u8>, Failure> {
     }
 }
 
-/// The lines that a program printed, each up to the words for people.
-struct Printed {
-    lines: std::vec::IntoIter<String>,
-}
-
-impl Printed {
-    fn new(output: &[u8]) -> Self {
-        let output = String::from_utf8_lossy(output);
-        let output = output.strip_suffix('\n').unwrap_or(&output);
-        let lines: Vec<String> = output
-            .split('\n')
-            .map(|line| compared(line).to_owned())
-            .collect();
-        let lines = if output.is_empty() { Vec::new() } else { lines };
-        Printed {
-            lines: lines.into_iter(),
-        }
-    }
-
-    /// The last line of a listing, which is the next line itself where that is no listing's first.
-    fn end_of_listing(&mut self) -> Option<String> {
-        let first = self.lines.next()?;
-        if first == "end" || first.starts_with("error") || first.starts_with("fault") {
-            return Some(first);
-        }
-        self.lines.find(|line| line == "end")
-    }
-}
-
-/// The part of an answer that is compared.
-fn compared(line: &str) -> &str {
-    line.split_once(" -- ").map_or(line, |(answer, _)| answer)
-}
-
 /// Where the output answers the script otherwise than the engine, if it does.
 pub fn first_difference(script: &[u8], output: &[u8]) -> Option<Difference> {
+    let answers: Vec<Answered> = session::answers(script).collect();
+    makings(&answers, output).err()
+}
+
+/// The certificates that are made in this output, by the numbers of the lines that ask for them; or where it answers
+/// them otherwise than the engine, whose answers these are.
+fn makings(
+    answers: &[Answered<'_>],
+    output: &[u8],
+) -> Result<BTreeMap<usize, Certificate>, Difference> {
     let mut printed = Printed::new(output);
-    for answered in session::answers(script) {
-        let answer = answered.answer.to_string();
-        for wanted in answer.split('\n') {
-            let given = match answered.answer {
-                Answer::Listed => printed.end_of_listing(),
-                _ => printed.lines.next(),
-            };
-            if given.as_deref() != Some(wanted) {
-                return Some(Difference::at(&answered, wanted, given));
-            }
-        }
+    let mut makings = BTreeMap::new();
+    for answered in answers {
+        let made = printed.take(&answered.answer);
+        let made = made.map_err(|otherwise| Difference::at(answered, otherwise))?;
+        makings.extend(made.map(|it| (answered.number, it)));
     }
-    let more = printed.lines.next()?;
-    Some(Difference {
-        line: None,
-        wanted: None,
-        given: Some(more),
-    })
+    match printed.next_line() {
+        None => Ok(makings),
+        more => Err(Difference {
+            line: None,
+            wanted: None,
+            given: more,
+        }),
+    }
 }
 
 /// A script on which the comparison failed, and why.
@@ -374,10 +389,10 @@ fn check_batch(program: &Program, calls: &[Tapes]) -> Result<(), Report> {
     let output = program
         .output(script.as_bytes(), Feed::Input)
         .map_err(|failure| report(&script, failure))?;
-    let mut printed = Printed::new(&output).lines;
+    let mut printed = Printed::new(&output);
     for ((line, tapes), number) in lines.iter().zip(calls).zip(1..) {
         let wanted = tapes.answer().to_string();
-        let given = printed.next();
+        let given = printed.next_line();
         if given.as_deref() != Some(&wanted) {
             let difference = Difference {
                 line: Some((number, "one of the calls".to_owned())),
@@ -387,7 +402,7 @@ fn check_batch(program: &Program, calls: &[Tapes]) -> Result<(), Report> {
             return Err(report(line, Failure::Differs(Box::new(difference))));
         }
     }
-    match printed.next() {
+    match printed.next_line() {
         None => Ok(()),
         more => {
             let difference = Difference {

@@ -38,6 +38,8 @@ pub enum Rule {
     NotContained = 17,
     NotClosed = 18,
     BanMet = 19,
+    SmallBuffer = 20,
+    NoneAccepted = 21,
     ListSize = 23,
     FilterAttribute = 24,
 }

@@ -7,9 +7,11 @@
 //!
 //! From the bottom up: [`fault`] has the refusals, [`entry`], [`scale`] and [`store`] what a state is made of, [`tape`]
 //! the orders, [`scheme`] and [`opening`] two of the tapes, [`ruling`] and [`register`] the register, [`certificate`]
-//! and [`ban`] the other two tapes, [`casting`] and [`check`] the check, [`calls`] the C library's call, [`script`] the lines and [`session`] their
-//! answers. [`generator`] writes scripts with a [`dice`], [`statistics`] counts what they come to,
-//! and [`mod@compare`] puts the same scripts to a program, after those that [`worked`] has with their answers.
+//! and [`ban`] the other two tapes, [`casting`] and [`check`] the check, [`make`] the making, [`calls`] the C library's
+//! call, [`script`] the lines and [`session`] their answers. [`generator`] writes scripts with a [`dice`], [`less`]
+//! takes things away from a certificate, and [`statistics`] counts what scripts come to. [`mod@compare`] puts the same
+//! scripts to a program, after those that [`worked`] has with their answers; [`printed`] reads what it prints of
+//! certificates, and [`second`] asks it about those that it made.
 
 pub mod ban;
 pub mod calls;
@@ -21,12 +23,16 @@ pub mod dice;
 pub mod entry;
 pub mod fault;
 pub mod generator;
+pub mod less;
+pub mod make;
 pub mod opening;
+pub mod printed;
 pub mod register;
 pub mod ruling;
 pub mod scale;
 pub mod scheme;
 pub mod script;
+pub mod second;
 pub mod session;
 pub mod statistics;
 pub mod store;

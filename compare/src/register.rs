@@ -2,9 +2,11 @@
 
 use std::collections::BTreeMap;
 
+use crate::certificate::Certificate;
 use crate::check;
 use crate::entry::{Attribute, Entry, Mask, Name, Right};
 use crate::fault::{Fault, Layer, Rule};
+use crate::make;
 use crate::opening;
 use crate::ruling::Filters;
 use crate::scale::Value;
@@ -148,8 +150,13 @@ impl Register {
     }
 
     /// Checks the certificate and the bans of two tapes on what the register holds.
-    pub fn check(&self, certificate: &[u8], bans: &[u8]) -> Result<(), Fault> {
+    pub fn check(&self, certificate: &[u8], bans: &[u8]) -> Result<Certificate, Fault> {
         check::check(&self.scheme, &self.state.protection, certificate, bans)
+    }
+
+    /// Makes the least certificate that a check with these bans would accept, for a buffer of so many bytes.
+    pub fn make(&self, size: usize, bans: &[u8]) -> Result<Certificate, make::Refusal> {
+        make::make(&self.scheme, &self.state.protection, size, bans)
     }
 
     /// Whether the entry `row` has the right on the entry `column`, and every filter lets it.

@@ -1,11 +1,12 @@
 //! What a line of a script says.
 
 use crate::entry::Mask;
+use crate::make;
 
 /// The most that a number for a command, a name, a right or an attribute may be, where its line is to be read.
 const MOST_NUMBER: u32 = 255;
-/// The most that a number of records may be.
-const MOST_RECORDS: u32 = 999_999;
+/// The most that a number of records may be, and the size of a buffer.
+const MOST_COUNT: u32 = 999_999;
 
 /// What a line asks for.
 #[derive(Clone, Debug, PartialEq, Eq)]
@@ -31,6 +32,8 @@ pub enum Ask {
     Request { command: u8, names: Vec<u8> },
     Rule { row: u8, column: u8, right: u8 },
     Check { certificate: Vec<u8>, bans: Vec<u8> },
+    Make { size: usize, bans: Vec<u8> },
+    Table,
     State,
 }
 
@@ -66,7 +69,7 @@ fn read_call(keyword: &[u8], rest: &[&[u8]]) -> Result<Call, BadLine> {
         (b"scheme", tape) => Ok(Call::Scheme(read_tape(tape)?)),
         (b"store", [b"board"]) => Ok(Call::StoreBoard),
         (b"store", [b"list", records]) => {
-            let records = read_number(records, MOST_RECORDS)?;
+            let records = read_number(records, MOST_COUNT)?;
             Ok(Call::StoreList {
                 records: usize::try_from(records).map_err(|_| BadLine)?,
             })
@@ -97,26 +100,49 @@ fn read_ask(keyword: &[u8], rest: &[&[u8]]) -> Result<Ask, BadLine> {
             right: read_byte(right)?,
         }),
         (b"check", tapes) => read_check(tapes),
+        (b"make", words) => read_make(words),
+        (b"table", []) => Ok(Ask::Table),
         (b"state", []) => Ok(Ask::State),
         _ => Err(BadLine),
     }
 }
 
-/// The two tapes of a check. The one slash between them may be a word of its own or stand at the end of a pair.
+/// The two tapes of a check, beside its one slash.
 fn read_check(words: &[&[u8]]) -> Result<Ask, BadLine> {
     let text = words.join(&b' ');
-    let sides: Vec<&[u8]> = text.split(|&byte| byte == b'/').collect();
-    let [certificate, bans] = sides[..] else {
+    let [certificate, bans] = &sides(&text)[..] else {
         return Err(BadLine);
     };
-    let tape = |side: &[u8]| {
-        let words: Vec<&[u8]> = side.split(is_blank).collect();
-        read_tape(&words)
-    };
     Ok(Ask::Check {
-        certificate: tape(certificate)?,
-        bans: tape(bans)?,
+        certificate: read_tape(certificate)?,
+        bans: read_tape(bans)?,
     })
+}
+
+/// The bans of a making, behind the size and a slash where there is one.
+fn read_make(words: &[&[u8]]) -> Result<Ask, BadLine> {
+    let text = words.join(&b' ');
+    let (size, bans) = match &sides(&text)[..] {
+        [bans] => (make::ROOM, read_tape(bans)?),
+        [size, bans] => (read_size(size)?, read_tape(bans)?),
+        _ => return Err(BadLine),
+    };
+    Ok(Ask::Make { size, bans })
+}
+
+fn read_size(words: &[&[u8]]) -> Result<usize, BadLine> {
+    let [size] = words else {
+        return Err(BadLine);
+    };
+    usize::try_from(read_number(size, MOST_COUNT)?).map_err(|_| BadLine)
+}
+
+/// The words before, between and after slashes. A slash may be a word of its own or stand at either end of one.
+fn sides(text: &[u8]) -> Vec<Vec<&[u8]>> {
+    let words = |side| <[u8]>::split(side, is_blank).filter(|word| !word.is_empty());
+    text.split(|&byte| byte == b'/')
+        .map(|side| words(side).collect())
+        .collect()
 }
 
 /// The bytes that words of hex digits spell. A blank stands only between pairs, so each word is whole pairs.
@@ -227,6 +253,32 @@ mod tests {
                 names: Vec::new()
             })
         );
+    }
+
+    #[test]
+    fn a_making_may_say_its_size() {
+        let makes = |size, bans: &[u8]| {
+            let bans = bans.to_vec();
+            asks(Ask::Make { size, bans })
+        };
+        assert_eq!(read_line(b"make"), makes(5_312, &[]));
+        assert_eq!(read_line(b"make 60 00"), makes(5_312, &[0x60, 0]));
+        assert_eq!(read_line(b" make 0060/6000\r"), makes(60, &[0x60, 0]));
+        assert_eq!(read_line(b"make\t999999 /"), makes(999_999, &[]));
+        for bad in [
+            "make 1000000 /",
+            "make /",
+            "make / 60",
+            "make 60 00 /",
+            "make 1 / 2 /",
+            "make 6",
+            "make/",
+            "make -1 /",
+            "make 1 / 6",
+            "table 0",
+        ] {
+            assert_eq!(read_line(bad.as_bytes()), Err(BadLine), "{bad}");
+        }
     }
 
     #[test]

@@ -3,13 +3,17 @@
 use std::collections::BTreeMap;
 use std::fmt;
 
+use crate::certificate::MOST_STAMPS;
+use crate::fault::Fault;
 use crate::generator::{self, Manner};
+use crate::make::Refusal;
 use crate::session::{self, Answer, Answered};
 
 /// Every answer that scripts of many seeds should come to, as [`Statistics`] words them.
-pub const WANTED: [&str; 45] = [
+pub const WANTED: [&str; 53] = [
     "check: ok",
     "error bad line",
+    "error no certificate",
     "error no register",
     "fault 1 1",
     "fault 1 2",
@@ -42,10 +46,16 @@ pub const WANTED: [&str; 45] = [
     "fault 6 17",
     "fault 6 18",
     "fault 6 19",
+    "fault 6 20",
+    "fault 6 21 for a ban",
+    "fault 6 21 for the stamps",
     "fault 7 23",
     "fault 7 24",
     "filter: ok",
     "list: end",
+    "make: ok",
+    "make: ok 0",
+    "make: ok with all stamps",
     "open: ok",
     "request: ok",
     "rule: ok no",
@@ -53,6 +63,7 @@ pub const WANTED: [&str; 45] = [
     "scheme: ok",
     "state: end",
     "store: ok",
+    "table: end",
 ];
 
 #[derive(Clone, Debug, Default)]
@@ -95,14 +106,26 @@ fn label(answered: &Answered<'_>) -> String {
         .find(|word| !word.is_empty());
     let keyword = String::from_utf8_lossy(keyword.unwrap_or_default());
     match &answered.answer {
-        Answer::Refused(fault) => format!("fault {} {}", fault.layer as u8, fault.rule as u8),
-        Answer::NoRegister | Answer::BadLine => answered.answer.to_string(),
+        Answer::Refused(fault) => refused(fault),
+        Answer::Unmade(Refusal::Fault(fault)) => refused(fault),
+        Answer::Unmade(Refusal::TooManyStamps) => "fault 6 21 for the stamps".to_owned(),
+        Answer::Unmade(Refusal::BanMet) => "fault 6 21 for a ban".to_owned(),
+        Answer::NoRegister | Answer::NoCertificate | Answer::BadLine => answered.answer.to_string(),
         Answer::Counted(_) => format!("{keyword}: ok"),
-        Answer::Held(_) => format!("{keyword}: end"),
+        Answer::Made(made) => match made.stamps().len() {
+            0 => format!("{keyword}: ok 0"),
+            MOST_STAMPS => format!("{keyword}: ok with all stamps"),
+            _ => format!("{keyword}: ok"),
+        },
+        Answer::Held(_) | Answer::Table(_) => format!("{keyword}: end"),
         Answer::Done | Answer::Ruled(_) | Answer::Listed => {
             format!("{keyword}: {}", answered.answer)
         }
     }
+}
+
+fn refused(fault: &Fault) -> String {
+    format!("fault {} {}", fault.layer as u8, fault.rule as u8)
 }
 
 impl fmt::Display for Statistics {

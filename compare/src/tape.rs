@@ -10,6 +10,11 @@ use crate::fault::{Fault, Layer, Rule};
 /// No tape is longer.
 pub const LONGEST: usize = 65_535;
 
+/// The bytes of a tape as pairs of hex digits, without blanks.
+pub fn digits(tape: &[u8]) -> String {
+    tape.iter().map(|byte| format!("{byte:02X}")).collect()
+}
+
 /// The most operands that an order has.
 const MOST_OPERANDS: usize = 5;
 

@@ -18,7 +18,7 @@ macro_rules! worked {
     };
 }
 
-pub const TABLE: [Worked; 10] = [
+pub const TABLE: [Worked; 11] = [
     worked!("small-kiosk"),
     worked!("scheme-refusals"),
     worked!("opening-refusals"),
@@ -28,25 +28,22 @@ pub const TABLE: [Worked; 10] = [
     worked!("rulings"),
     worked!("checks"),
     worked!("check-refusals"),
+    worked!("makings"),
     worked!("lines"),
 ];
 
 #[cfg(test)]
 mod tests {
     use super::*;
-    use crate::session;
+    use crate::compare;
     use std::fs;
     use std::io;
 
     #[test]
     fn the_engine_gives_the_expected_answers() {
         for worked in TABLE {
-            let expected: Vec<&str> = worked.expected.lines().collect();
-            let answers: Vec<String> = session::answers(worked.script)
-                .map(|it| it.answer.to_string())
-                .collect();
-            let given: Vec<&str> = answers.iter().flat_map(|answer| answer.lines()).collect();
-            assert_eq!(given, expected, "{}", worked.name);
+            let difference = compare::first_difference(worked.script, worked.expected.as_bytes());
+            assert_eq!(difference, None, "{}", worked.name);
         }
     }
 

@@ -4,48 +4,39 @@ use std::collections::BTreeMap;
 
 use super::draft::Draft;
 use super::taste::Taste;
-use crate::casting::{Castings, Outcome};
-use crate::certificate::{Certificate, MOST_STAMPS};
-use crate::check::{self, Rises};
+use crate::certificate::{pair_order, stamp_order, Certificate, MOST_STAMPS};
 use crate::dice::Dice;
-use crate::entry::{Attribute, Kind, Mask, Stamp, NULL};
+use crate::entry::{Kind, Mask, Stamp};
 use crate::fault::Fault;
-use crate::register::{Protection, Register};
-use crate::scale::Value;
-use crate::scheme::Command;
-
-/// How many outcomes are looked at before a certificate is left as it is.
-const PATIENCE: usize = 10000;
-/// How many outcomes that are not kept are put right at a time.
-const BATCH: usize = 64;
+use crate::make;
+use crate::register::Register;
 
 /// A certificate for the register, mostly one that is closed under all its commands and lists what must be listed and
 /// no more.
 pub fn fitting(dice: &mut Dice, taste: &Taste, register: &Register) -> Certificate {
     let mut certificate = Certificate::default();
-    contain(&mut certificate, &register.state().protection);
+    // What there is no room for is left out, here and below.
+    let _ = make::contain(&mut certificate, &register.state().protection);
     if dice.chance(25) {
         add_some(dice, taste, &mut certificate);
     }
     let all = register.scheme().commands();
-    let mut patience = PATIENCE;
     match dice.below(20) {
         0 => {}
         1 => {
-            patience = dice.between(1, 30);
-            close(&mut certificate, &all.iter().collect::<Vec<_>>(), patience);
+            // Each command is asked once, and may ask for more after the others.
+            for command in all {
+                let _ = make::keep_all(&mut certificate, command);
+            }
         }
         2..=5 => {
             // A command that is passed over is one under which it may not be closed.
             let left_out = dice.below(all.len());
             let commands = all.iter().enumerate();
-            let others: Vec<_> = commands
-                .filter(|&(at, _)| at != left_out)
-                .map(|(_, command)| command)
-                .collect();
-            close(&mut certificate, &others, patience);
+            let others = commands.filter(|&(at, _)| at != left_out);
+            let _ = make::close(&mut certificate, others.map(|(_, command)| command));
         }
-        _ => close(&mut certificate, &all.iter().collect::<Vec<_>>(), patience),
+        _ => drop(make::close(&mut certificate, all)),
     }
     certificate
 }
@@ -68,110 +59,9 @@ fn add_some(dice: &mut Dice, taste: &Taste, certificate: &mut Certificate) {
     }
 }
 
-/// Adds what there must be for the state to be contained.
-fn contain(certificate: &mut Certificate, held: &Protection) {
-    for (_, stamp) in held.entries() {
-        let _ = grow(certificate, *stamp);
-    }
-    for (row, column, mask) in held.cells().iter() {
-        if let (Some(&row), Some(&column)) = (held.entry(row), held.entry(column)) {
-            let _ = allow(certificate, row, column, mask);
-        }
-    }
-}
-
-/// What was to be added is more than a certificate can hold.
-#[derive(Clone, Copy, Debug)]
-struct Full;
-
-/// Adds what the commands ask for, until they ask for nothing more, or there is no room, or patience ends.
-fn close(certificate: &mut Certificate, commands: &[&Command], patience: usize) {
-    let mut left = patience;
-    loop {
-        let before = certificate.clone();
-        for command in commands {
-            let outcomes = not_kept(certificate, command, &mut left);
-            for outcome in outcomes {
-                if left == 0 || keep(certificate, &outcome).is_err() {
-                    return;
-                }
-            }
-        }
-        if *certificate == before {
-            return;
-        }
-    }
-}
-
-/// Some of the outcomes of the command that don't stay within the certificate.
-fn not_kept(certificate: &Certificate, command: &Command, left: &mut usize) -> Vec<Outcome> {
-    let rises = Rises::of(certificate);
-    let mut found = Vec::new();
-    Castings::new(certificate, command).all(&mut |outcome| {
-        *left = left.saturating_sub(1);
-        if !check::is_kept(certificate, &rises, outcome) {
-            found.push(*outcome);
-        }
-        found.len() < BATCH && *left > 0
-    });
-    found
-}
-
-/// Adds what there must be for this outcome to stay within the certificate.
-fn keep(certificate: &mut Certificate, outcome: &Outcome) -> Result<(), Full> {
-    for (_, stamp) in outcome.standing() {
-        grow(certificate, stamp)?;
-    }
-    for (place, mask) in outcome.cells() {
-        if let (Some(row), Some(column)) = (outcome.stamp(place.row), outcome.stamp(place.column)) {
-            allow(certificate, row, column, mask)?;
-        }
-    }
-    for (parameter, cast) in outcome.kept() {
-        let Some(to) = outcome
-            .stamp(parameter)
-            .and_then(|it| certificate.number(&it))
-        else {
-            continue;
-        };
-        for other in 0..certificate.stamps().len() {
-            // Where the row is a thing's, nothing was allowed.
-            let _ = certificate.allow(to, other, certificate.between(cast, other));
-            let _ = certificate.allow(other, to, certificate.between(other, cast));
-        }
-    }
-    Ok(())
-}
-
-fn grow(certificate: &mut Certificate, stamp: Stamp) -> Result<usize, Full> {
-    if let Some(number) = certificate.number(&stamp) {
-        return Ok(number);
-    }
-    certificate.list(stamp).map_err(|_| Full)?;
-    Ok(certificate.stamps().len() - 1)
-}
-
-fn allow(certificate: &mut Certificate, row: Stamp, column: Stamp, mask: Mask) -> Result<(), Full> {
-    if mask.is_empty() {
-        return Ok(());
-    }
-    let (row, column) = (grow(certificate, row)?, grow(certificate, column)?);
-    // The row holds rights, so it is a card.
-    let _ = certificate.allow(row, column, mask);
-    Ok(())
-}
-
 /// The operands that say a stamp.
 pub fn stamp_operands(stamp: &Stamp) -> [u8; 5] {
-    let mut operands = [NULL; 5];
-    operands[0] = match stamp.kind {
-        Kind::Card => 1,
-        Kind::Thing => 2,
-    };
-    for attribute in Attribute::ALL {
-        let value = stamp.attributes.get(attribute);
-        operands[1 + attribute.index()] = value.map_or(NULL, Value::number);
-    }
+    let [_, operands @ ..] = stamp_order(stamp);
     operands
 }
 
@@ -203,16 +93,11 @@ pub struct Sketch {
 
 impl Sketch {
     pub fn of(certificate: &Certificate) -> Self {
-        let stamps: Vec<_> = certificate.stamps().iter().map(stamp_operands).collect();
-        let mut allowed = BTreeMap::new();
-        for row in 0..stamps.len() {
-            for column in 0..stamps.len() {
-                let mask = certificate.between(row, column);
-                if !mask.is_empty() {
-                    allowed.insert((row, column), mask.bits());
-                }
-            }
-        }
+        let stamps = certificate.stamps().iter().map(stamp_operands).collect();
+        let pairs = certificate.pairs();
+        let allowed = pairs
+            .map(|(row, column, mask)| ((row, column), mask.bits()))
+            .collect();
         Sketch { stamps, allowed }
     }
 
@@ -356,7 +241,9 @@ impl Sketch {
             let mut stamps = (0..draft.orders.len()).filter(|&at| draft.orders[at][0] == 0x50);
             let least = stamps.nth(row.max(column)).map_or(0, |at| at + 1);
             let at = dice.between(least, draft.orders.len());
-            draft.orders.insert(at, pair_order(row, column, mask));
+            draft
+                .orders
+                .insert(at, pair_order(row, column, mask).to_vec());
         }
         draft
     }
@@ -386,15 +273,9 @@ impl Sketch {
 fn with_pairs(draft: Draft, pairs: &[((usize, usize), u16)]) -> Draft {
     let mut draft = draft;
     for &((row, column), mask) in pairs {
-        draft.orders.push(pair_order(row, column, mask));
+        draft.push(&pair_order(row, column, mask));
     }
     draft
-}
-
-fn pair_order(row: usize, column: usize, mask: u16) -> Vec<u8> {
-    let number = |it: usize| u8::try_from(it).unwrap_or(NULL);
-    let [high, low] = mask.to_be_bytes();
-    vec![0x51, number(row), number(column), high, low]
 }
 
 fn shuffle<T>(dice: &mut Dice, items: &mut [T]) {

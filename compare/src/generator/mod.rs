@@ -7,8 +7,10 @@ mod bans;
 mod calls;
 mod certificates;
 mod checks;
+mod crowds;
 mod damage;
 mod draft;
+mod makings;
 mod openings;
 mod requests;
 mod schemes;
@@ -17,14 +19,17 @@ mod taste;
 
 use std::fmt;
 
+use crate::certificate::Certificate;
 use crate::dice::Dice;
 use crate::fault::Rule;
 use crate::register::Register;
 use crate::session::{Answer, Session};
 pub use calls::calls;
 use checks::Check;
+use crowds::Crowd;
 use damage::Tape;
 use draft::Draft;
+use makings::Making;
 use requests::Hope;
 use spelling::Words;
 use taste::Taste;
@@ -141,8 +146,7 @@ impl Scribe {
         for _ in 0..setups {
             self.choose();
         }
-        self.scheme();
-        self.open();
+        self.begin();
         for _ in 0..acts {
             self.act();
         }
@@ -151,6 +155,21 @@ impl Scribe {
                 self.err();
             }
         }
+    }
+
+    /// A scheme and an opening, and at times what is made or asked right then.
+    fn begin(&mut self) {
+        if self.dice.chance(8) {
+            self.crowd();
+            self.make(3);
+            return self.make(3);
+        }
+        self.scheme();
+        if self.dice.chance(4) {
+            self.say_words(Words::new("table"));
+            self.make(3);
+        }
+        self.open();
     }
 
     /// One thing of those that a script is mostly made of.
@@ -162,9 +181,11 @@ impl Scribe {
             return self.open();
         }
         match self.dice.below(100) {
-            0..=52 => self.request(),
-            53..=64 => self.rule(),
-            65..=77 => self.check(8),
+            0..=46 => self.request(),
+            47..=57 => self.rule(),
+            58..=69 => self.check(8),
+            70..=75 => self.make(8),
+            76..=77 => self.say_words(Words::new("table")),
             78..=81 => self.choose(),
             82..=84 => self.damaged_scheme(),
             85..=88 => self.open(),
@@ -184,7 +205,8 @@ impl Scribe {
         match self.dice.below(100) {
             0..=34 => self.damaged_scheme(),
             35..=54 => self.damaged_opening(),
-            55..=69 => self.check(60),
+            55..=66 => self.check(60),
+            67..=69 => self.make(60),
             70..=81 => self.say(spelling::bad_line),
             82..=85 => self.broken_line(),
             86..=93 => self.wild_request(),
@@ -280,6 +302,14 @@ impl Scribe {
         self.state_at_times(10);
     }
 
+    fn crowd(&mut self) {
+        let crowd = Crowd::new(&mut self.dice);
+        self.say_tape("scheme", crowd.scheme.bytes());
+        let limit = self.limit().unwrap_or(1);
+        let opening = crowd.opening(&mut self.dice, limit);
+        self.say_tape("open", opening.bytes());
+    }
+
     fn open(&mut self) {
         let draft = self.opening();
         self.say_tape("open", draft.bytes());
@@ -311,10 +341,14 @@ impl Scribe {
 
     /// A line with a tape, or another, of which a byte is not as it was.
     fn broken_line(&mut self) {
-        let words = match self.dice.below(4) {
+        let words = match self.dice.below(5) {
             0 => Words::new("open").tape(self.opening().bytes()),
             1 => self.filter(),
             2 => check_words(&self.checked.clone().unwrap_or_default()),
+            3 => make_words(&Making {
+                size: makings::size(&mut self.dice),
+                bans: self.checked.clone().unwrap_or_default().bans,
+            }),
             _ => Words::new("request")
                 .number(self.dice.below(3))
                 .number(self.dice.below(64)),
@@ -382,6 +416,39 @@ impl Scribe {
         }
     }
 
+    // Makings.
+
+    /// A making, with a damaged ban tape so many times in a hundred, and at times what follows from it.
+    fn make(&mut self, damaged: usize) {
+        let Some(register) = self.session.register() else {
+            return self.say_words(make_words(&Making::default()));
+        };
+        let making = makings::making(&mut self.dice, &self.taste, register, damaged);
+        let line = make_words(&making).spelled(&mut self.dice);
+        let answer = self.put(line);
+        if self.dice.chance(15) {
+            self.say_words(Words::new("table"));
+        }
+        if let Some(Answer::Made(made)) = answer {
+            self.doubt(&made, making.bans);
+        }
+    }
+
+    /// Puts what was made to a check, or what is nearly that.
+    fn doubt(&mut self, made: &Certificate, bans: Vec<u8>) {
+        for _ in 0..self.dice.one_of([0, 0, 0, 1, 1, 2, 3]) {
+            let check = Check {
+                certificate: makings::doubted(&mut self.dice, made).tape(),
+                bans: bans.clone(),
+            };
+            self.say_words(check_words(&check));
+            self.checked = Some(check);
+        }
+        if self.dice.chance(15) {
+            self.say_words(Words::new("table"));
+        }
+    }
+
     fn rule(&mut self) {
         let question = requests::question(&mut self.dice, &self.taste, self.session.register());
         self.say_words(Words::new("rule").numbers(&question));
@@ -393,6 +460,15 @@ fn check_words(check: &Check) -> Words {
         .tape(check.certificate.clone())
         .slash()
         .tape(check.bans.clone())
+}
+
+fn make_words(making: &Making) -> Words {
+    let words = Words::new("make");
+    let words = match making.size {
+        Some(size) => words.number(size).slash(),
+        None => words,
+    };
+    words.tape(making.bans.clone())
 }
 
 /// The names under which entries stand, and of these the cards' names.

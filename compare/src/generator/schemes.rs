@@ -93,8 +93,12 @@ impl<'a> Sketch<'a> {
         } else {
             None
         };
-        for _ in 0..tests {
-            self.test();
+        if self.dice.chance(5) {
+            self.all_tests(MOST - usize::from(rise.is_some()));
+        } else {
+            for _ in 0..tests {
+                self.test();
+            }
         }
         let steps = self.number_of_steps(manner);
         if self.dice.chance(20) {
@@ -164,6 +168,16 @@ impl<'a> Sketch<'a> {
     fn test(&mut self) {
         if let Some(order) = self.some_test() {
             self.draft.push(&order);
+        }
+    }
+
+    /// Writes as many tests as are left, of which often the last alone decides.
+    fn all_tests(&mut self, left: usize) {
+        if let (Some(first), Some(last)) = (self.some_test(), self.some_test()) {
+            for _ in 1..left {
+                self.draft.push(&first);
+            }
+            self.draft.push(&last);
         }
     }
 

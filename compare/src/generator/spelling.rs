@@ -227,6 +227,44 @@ pub fn bad_line(dice: &mut Dice) -> Vec<u8> {
         b"Check /",
         b"check / # now",
         b"/",
+        b"make 1000000 /",
+        b"make 18446744073709551617 / 60 01 00 01 00 01",
+        b"make /",
+        b"make / 60 01 00 01 00 01",
+        b"make//",
+        b"make 5312 / / 60 01 00 01 00 01",
+        b"make 5312 / 60 01 00 01 00 01 /",
+        b"make 5312 / 5312 /",
+        b"make 5312 5312 /",
+        b"make 60 01 00 01 00 01 / 5312",
+        b"make 60 01 00 01 00 01 / 60 01 00 01 00 01",
+        b"make -5312 /",
+        b"make +5312 /",
+        b"make 0x14C0 /",
+        b"make 5,312 /",
+        b"make 5312 /6",
+        b"make 5312 / 6 0",
+        b"make 5312 \\ 60",
+        b"make 6",
+        b"make 6 0",
+        b"make 60 0G",
+        b"make 60 01 00 01 00 01 # now",
+        b"make/",
+        b"make/60",
+        b"make5312 /",
+        b"make60",
+        b"makes",
+        b"Make",
+        b"MAKE 5312 /",
+        b"table 1",
+        b"table /",
+        b"table#",
+        b"table # now",
+        b"Table",
+        b"TABLE",
+        b"tables",
+        b"tab le",
+        b"\x0Ctable",
         b"state 1",
         b"State",
         b"states",
@@ -277,6 +315,7 @@ mod tests {
         let tape = Words::new("open").tape(vec![0x0F, 0xF0, 0xAB]);
         let check = Words::new("check").tape(vec![0xB5]).slash().tape(vec![6]);
         let empty = Words::new("check").tape(Vec::new()).slash();
+        let making = Words::new("make").number(5311).slash().tape(vec![0x60]);
         let mut dice = Dice::new(1);
         for _ in 0..300 {
             assert_eq!(
@@ -292,6 +331,10 @@ mod tests {
                 read_line(b"check B5/06")
             );
             assert_eq!(read_line(&empty.spelled(&mut dice)), read_line(b"check /"));
+            assert_eq!(
+                read_line(&making.spelled(&mut dice)),
+                read_line(b"make 5311 / 60")
+            );
         }
     }
 
