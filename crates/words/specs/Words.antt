@@ -1,5 +1,5 @@
 -- Kinds, values, tests and steps in words.
-use Rattle.std.specs.Prelude.{ℕ, List, ◌++◌, Some, None, Option, codes, decimal}
+use Rattle.std.specs.Prelude.{ℕ, List, ◌++◌, ◌==◌, Some, None, Option, if◌then◌else◌, codes, decimal}
 use Rattle.model.specs.declared.kind.Kind.{Kind}
 use Rattle.model.specs.declared.kind.Kind.TheVariants.{Subject, Object}
 use Rattle.scheme.specs.declared.step.Step.{Step}
@@ -14,6 +14,10 @@ kind_words Object = codes "thing"
 abbrev pub value_words : Option ℕ → List ℕ
 value_words None = codes "null"
 value_words (Some v) = decimal v
+
+-- What a step sets is shown as a value; 255, which is a value of no scale and which no scheme sets, is shown as null.
+abbrev pub value_set : ℕ → Option ℕ
+value_set v = if v == 255 then None else Some v
 
 -- the cell [i, j]
 abbrev pub cell_words : (i j : ℕ) → List ℕ
@@ -32,6 +36,6 @@ test_words (Covers i k j) = codes "attribute " ++ of_then k i (codes " covers at
 abbrev pub step_words : Step → List ℕ
 step_words (Enter r i j) = codes "enter right " ++ (decimal r ++ (codes " into " ++ cell_words i j))
 step_words (Delete r i j) = codes "delete right " ++ (decimal r ++ (codes " from " ++ cell_words i j))
-step_words (Set i k v) = codes "set attribute " ++ of_then k i (codes " to " ++ decimal v)
+step_words (Set i k v) = codes "set attribute " ++ of_then k i (codes " to " ++ value_words (value_set v))
 step_words (Create i) = codes "create " ++ decimal i
 step_words (Destroy i) = codes "destroy " ++ decimal i

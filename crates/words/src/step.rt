@@ -3,6 +3,7 @@ ghost use Rattle.std.specs.Prelude.{Some};
 ghost use Rattle.words.specs.Words.{step_words};
 
 use crate::InWords;
+use crate::value::value_set;
 use scheme::step::Step;
 use std::fmt;
 
@@ -24,7 +25,10 @@ impl fmt::Display for InWords<Step> {
                 parameter,
                 attribute,
                 value,
-            } => write!(f, "set attribute {attribute} of {parameter} to {value}"),
+            } => {
+                let value = InWords(value_set(value));
+                write!(f, "set attribute {attribute} of {parameter} to {value}")
+            }
             Step::Create { parameter } => write!(f, "create {parameter}"),
             Step::Destroy { parameter } => write!(f, "destroy {parameter}"),
         }

@@ -1,6 +1,6 @@
 // A value of an attribute, or null.
-ghost use Rattle.std.specs.Prelude.{Some};
-ghost use Rattle.words.specs.Words.{value_words};
+ghost use Rattle.std.specs.Prelude.{◌≡◌, Some};
+ghost use Rattle.words.specs.Words.{value_words, value_set};
 
 use crate::InWords;
 use model::stamp::Value;
@@ -15,4 +15,11 @@ impl fmt::Display for InWords<Option<Value>> {
             Some(value) => write!(f, "{value}"),
         }
     }
+}
+
+// What a step sets, as it is shown: 255 is a value of no scale, and stands for null.
+pub(crate) fn value_set(value: Value) -> Option<Value>
+    ensures { result ≡ value_set value }
+{
+    (value != u8::MAX).then_some(value)
 }
