@@ -13,9 +13,10 @@ pub record Made : Type 0 where
   pub state : State
   pub setup : Setup
 
-abbrev pub made_of : Desk → Option Made
-made_of (Bare board) = None
-made_of (OnDesk register setup) = Some (record { kept = kept_by register; state = state_of register; setup = setup })
+abbrev pub made_of : Option Desk → Option Made
+made_of None = None
+made_of (Some (Bare board)) = None
+made_of (Some (OnDesk register setup)) = Some (record { kept = kept_by register; state = state_of register; setup = setup })
 
 -- the masks of the board
 abbrev pub board_at : Desk → List ℕ

@@ -33,7 +33,7 @@ use Rattle.kiosk.specs.declared.answer.Refusal.{Refusal}
 use Rattle.kiosk.specs.declared.answer.Refusal.TheVariants.{Fault, Flawed, NoRegister, NoCertificate, BadLine}
 use Rattle.kiosk.specs.Checking.{Shows}
 use Rattle.kiosk.specs.Desks.{Made, made_of}
-use Rattle.kiosk.specs.declared.session.Session.{Session}
+use Rattle.kiosk.specs.declared.kept.Session.{Session}
 
 -- What is chosen for the next register; the register of the scheme that was accepted last, if any was; and the certificate that
 -- was made or accepted on it last, if any was.

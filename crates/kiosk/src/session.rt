@@ -1,4 +1,4 @@
-// What the kiosk keeps from line to line, and what it answers.
+// What the kiosk answers to a line.
 ghost use Rattle.std.specs.Prelude.{◌≡◌, Some, MatchResult};
 ghost use Rattle.script.specs.Calls.{call_of};
 ghost use Rattle.kiosk.specs.Sessions.{kiosk_of, said, fresh, listed, shown, tabled, ruling_of, Taken, BoardChosen, ListChosen, FilterChosen, Opened, Asked, Checks, Makes, WantsList, WantsBuffer, Answered, CallWants, LineAnswered, LineWants};
@@ -6,7 +6,7 @@ ghost use Rattle.kiosk.specs.Sessions.{kiosk_of, said, fresh, listed, shown, tab
 use crate::answer::{Answer, Refusal, Reply};
 use crate::checking::show_fault;
 use crate::desk::Desk;
-use certificates::certificate::Certificate;
+use crate::kept::Session;
 use handing_on::checked::check_certificate;
 use handing_on::made::make_certificate;
 use model::mask::{Mask, Right};
@@ -19,17 +19,9 @@ use script::{Call, ReadError, read_line};
 use setups::making::make_register;
 use setups::setup::{Setup, StoreChoice};
 use setups::size::ListSize;
+use setups::store::StoreRoom;
 use std::alloc::{AllocError, Global};
 use stores::board::Board;
-
-// What is chosen for the next register, the register of the scheme that was accepted last, and the certificate that was made or
-// accepted on it last.
-#[derive(Drop)]
-pub struct Session<'a> {
-    pub(crate) chosen: Setup,
-    pub(crate) desk: Desk<'a>,
-    pub(crate) certificate: Option<Certificate>,
-}
 
 impl<'a> Session<'a> {
     // The board is taken for the registers to come, whatever it holds.
@@ -38,29 +30,31 @@ impl<'a> Session<'a> {
     {
         Session {
             chosen: Setup::plain(),
-            desk: Desk::Bare(board),
+            desk: Some(Desk::Bare(board)),
             certificate: None,
         }
     }
 
     // An accepted scheme makes the session's register, with what is chosen, and no certificate is kept for it yet; a refused one
-    // leaves the old. Memory can be wanting only for the records of a list; then there is no session any more.
-    fn take_scheme(self, heap: Global, tape: &[u8]) -> Result<(Session<'a>, Answer), AllocError>
-        ensures { MatchResult result (λ p. Taken (kiosk_of self.entry) tape.now (said (kiosk_of p.0) (Some p.1)) (kiosk_of p.0)) (λ _. WantsList (kiosk_of self.entry) tape.now) }
+    // leaves the old. Memory can be wanting only for the records of a list; it is had first, so the session then stays as it was.
+    fn take_scheme(&mut self, heap: Global, tape: &[u8]) -> Result<Answer, AllocError>
+        ensures { MatchResult result (λ answer. Taken (kiosk_of self.old) tape.now (said (kiosk_of self.new) (Some answer)) (kiosk_of self.new)) (λ _. WantsList (kiosk_of self.old) tape.now × (self.new ≡ self.old)) }
     {
         let scheme = match read_scheme::<KioskScales>(tape) {
             Ok(scheme) => scheme,
-            Err(fault) => return Ok((self, Err(Refusal::Fault(fault)))),
+            Err(fault) => return Ok(Err(Refusal::Fault(fault))),
         };
         let commands = scheme.commands().len();
-        let Session { chosen, desk, .. } = self;
-        let register = make_register(heap, scheme, &chosen, desk.into_board())?;
-        let session = Session {
-            chosen,
-            desk: Desk::Made(register, chosen),
-            certificate: None,
+        let room = StoreRoom::new(heap, &self.chosen.store)?;
+        let board = match self.desk.take() {
+            Some(desk) => desk.into_board(),
+            // It is always there between two lines.
+            None => unreachable!(),
         };
-        Ok((session, Ok(Reply::Accepted(commands))))
+        let register = make_register(scheme, room, self.chosen.filters, board);
+        self.desk = Some(Desk::Made(register, self.chosen));
+        self.certificate = None;
+        Ok(Ok(Reply::Accepted(commands)))
     }
 
     fn choose_board(&mut self) -> Answer
@@ -89,8 +83,8 @@ impl<'a> Session<'a> {
         ensures { said (kiosk_of self.now) (Some result) ≡ listed (kiosk_of self.now) }
     {
         match self.desk {
-            Desk::Bare(_) => Err(Refusal::NoRegister),
-            Desk::Made(_, _) => Ok(Reply::Listing),
+            Some(Desk::Made(_, _)) => Ok(Reply::Listing),
+            _ => Err(Refusal::NoRegister),
         }
     }
 
@@ -98,8 +92,8 @@ impl<'a> Session<'a> {
         ensures { said (kiosk_of self.now) (Some result) ≡ shown (kiosk_of self.now) }
     {
         match self.desk {
-            Desk::Bare(_) => Err(Refusal::NoRegister),
-            Desk::Made(_, _) => Ok(Reply::State),
+            Some(Desk::Made(_, _)) => Ok(Reply::State),
+            _ => Err(Refusal::NoRegister),
         }
     }
 
@@ -107,10 +101,10 @@ impl<'a> Session<'a> {
         ensures { said (kiosk_of self.now) (Some result) ≡ ruling_of (kiosk_of self.now) row column right }
     {
         match &self.desk {
-            Desk::Bare(_) => Err(Refusal::NoRegister),
-            Desk::Made(register, _) => {
+            Some(Desk::Made(register, _)) => {
                 Ok(Reply::Ruled(calls::rule(register, row, column, right)))
             }
+            _ => Err(Refusal::NoRegister),
         }
     }
 
@@ -118,11 +112,11 @@ impl<'a> Session<'a> {
         ensures { Opened (kiosk_of self.old) tape.now (said (kiosk_of self.new) (Some result)) (kiosk_of self.new) }
     {
         match &mut self.desk {
-            Desk::Bare(_) => Err(Refusal::NoRegister),
-            Desk::Made(register, _) => {
+            Some(Desk::Made(register, _)) => {
                 calls::open(register, tape)?;
                 Ok(Reply::Opened)
             }
+            _ => Err(Refusal::NoRegister),
         }
     }
 
@@ -130,10 +124,10 @@ impl<'a> Session<'a> {
         ensures { Asked (kiosk_of self.old) command names.now (said (kiosk_of self.new) (Some result)) (kiosk_of self.new) }
     {
         match &mut self.desk {
-            Desk::Bare(_) => Err(Refusal::NoRegister),
-            Desk::Made(register, _) => {
+            Some(Desk::Made(register, _)) => {
                 Ok(Reply::Done(calls::request(register, command, names)?))
             }
+            _ => Err(Refusal::NoRegister),
         }
     }
 
@@ -141,7 +135,7 @@ impl<'a> Session<'a> {
     fn check(&mut self, certificate: &[u8], bans: &[u8]) -> Answer
         ensures { Checks (kiosk_of self.old) certificate.now bans.now (said (kiosk_of self.new) (Some result)) (kiosk_of self.new) }
     {
-        let Desk::Made(register, _) = &self.desk else {
+        let Some(Desk::Made(register, _)) = &self.desk else {
             return Err(Refusal::NoRegister);
         };
         match check_certificate(register, certificate, bans) {
@@ -153,11 +147,11 @@ impl<'a> Session<'a> {
         }
     }
 
-    // So is one that is made. Memory can be wanting for the buffer.
+    // So is one that is made. Memory can be wanting for the buffer; then the session stays as it was.
     fn make(&mut self, heap: Global, size: usize, bans: &[u8]) -> Result<Answer, AllocError>
-        ensures { MatchResult result (λ answer. Makes (kiosk_of self.old) size bans.now (said (kiosk_of self.new) (Some answer)) (kiosk_of self.new)) (λ _. WantsBuffer (kiosk_of self.old).made) }
+        ensures { MatchResult result (λ answer. Makes (kiosk_of self.old) size bans.now (said (kiosk_of self.new) (Some answer)) (kiosk_of self.new)) (λ _. WantsBuffer (kiosk_of self.old).made × (self.new ≡ self.old)) }
     {
-        let Desk::Made(register, _) = &self.desk else {
+        let Some(Desk::Made(register, _)) = &self.desk else {
             return Ok(Err(Refusal::NoRegister));
         };
         let buffer = vec![in heap; 0; size]?;
@@ -174,28 +168,21 @@ impl<'a> Session<'a> {
         ensures { said (kiosk_of self.now) (Some result) ≡ tabled (kiosk_of self.now) }
     {
         match (&self.desk, &self.certificate) {
-            (Desk::Bare(_), _) => Err(Refusal::NoRegister),
-            (Desk::Made(_, _), None) => Err(Refusal::NoCertificate),
-            (Desk::Made(_, _), Some(_)) => Ok(Reply::Table),
+            (Some(Desk::Made(_, _)), Some(_)) => Ok(Reply::Table),
+            (Some(Desk::Made(_, _)), None) => Err(Refusal::NoCertificate),
+            _ => Err(Refusal::NoRegister),
         }
     }
 
     // Blank lines and remarks have no answer.
-    fn answer(
-        mut self,
-        heap: Global,
-        call: Option<Call>,
-    ) -> Result<(Session<'a>, Option<Answer>), AllocError>
-        ensures { MatchResult result (λ p. Answered (kiosk_of self.entry) (Some (call_of call)) (said (kiosk_of p.0) p.1) (kiosk_of p.0)) (λ _. CallWants (kiosk_of self.entry) (call_of call)) }
+    fn answer(&mut self, heap: Global, call: Option<Call>) -> Result<Option<Answer>, AllocError>
+        ensures { MatchResult result (λ answer. Answered (kiosk_of self.old) (Some (call_of call)) (said (kiosk_of self.new) answer) (kiosk_of self.new)) (λ _. CallWants (kiosk_of self.old) (call_of call) × (self.new ≡ self.old)) }
     {
         let Some(call) = call else {
-            return Ok((self, None));
+            return Ok(None);
         };
         let answer = match call {
-            Call::Scheme(tape) => {
-                let (session, answer) = self.take_scheme(heap, tape.as_slice())?;
-                return Ok((session, Some(answer)));
-            }
+            Call::Scheme(tape) => self.take_scheme(heap, tape.as_slice())?,
             Call::List => self.list(),
             Call::StoreBoard => self.choose_board(),
             // A `usize` has 64 bits, so the casts keep the numbers.
@@ -211,22 +198,18 @@ impl<'a> Session<'a> {
             Call::Make { size, bans } => self.make(heap, size as usize, bans.as_slice())?,
             Call::Table => self.table(),
         };
-        Ok((self, Some(answer)))
+        Ok(Some(answer))
     }
 
-    // Memory can be wanting for what a line writes, for the records of a list, or for the buffer of a making. Then there is no
-    // session any more.
-    pub fn answer_line(
-        self,
-        heap: Global,
-        line: &[u8],
-    ) -> Result<(Session<'a>, Option<Answer>), AllocError>
-        ensures { MatchResult result (λ p. LineAnswered (kiosk_of self.entry) line.now (said (kiosk_of p.0) p.1) (kiosk_of p.0)) (λ _. LineWants (kiosk_of self.entry) line.now) }
+    // Memory can be wanting for what a line writes, for the records of a list, or for the buffer of a making. Then the session
+    // stays as it was.
+    pub fn answer_line(&mut self, heap: Global, line: &[u8]) -> Result<Option<Answer>, AllocError>
+        ensures { MatchResult result (λ answer. LineAnswered (kiosk_of self.old) line.now (said (kiosk_of self.new) answer) (kiosk_of self.new)) (λ _. LineWants (kiosk_of self.old) line.now × (self.new ≡ self.old)) }
     {
         // An error goes two ways, so no `From` turns it over.
         match read_line(heap, line) {
             Ok(call) => self.answer(heap, call),
-            Err(ReadError::Unreadable) => Ok((self, Some(Err(Refusal::BadLine)))),
+            Err(ReadError::Unreadable) => Ok(Some(Err(Refusal::BadLine))),
             Err(ReadError::OutOfMemory(cause)) => Err(cause),
         }
     }

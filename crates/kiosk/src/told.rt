@@ -5,7 +5,7 @@ ghost use Rattle.kiosk.specs.Sessions.{kiosk_of};
 
 use crate::answer::{Refusal, Reply};
 use crate::desk::Desk;
-use crate::session::Session;
+use crate::kept::Session;
 use crate::state::StateLines;
 use flaw_words::flaw::FlawWords;
 use std::fmt;
@@ -30,11 +30,11 @@ impl fmt::Display for Told<'_, '_> {
         match &self.reply {
             Reply::Accepted(count) => write!(f, "ok -- the scheme is accepted; commands: {count}"),
             Reply::Listing => match desk {
-                Desk::Bare(_) => write!(f, "{}", Refusal::NoRegister),
-                Desk::Made(register, setup) => {
+                Some(Desk::Made(register, setup)) => {
                     let commands = Listings(register.commands());
                     write!(f, "{commands}{setup}end")
                 }
+                _ => write!(f, "{}", Refusal::NoRegister),
             },
             Reply::StoreChosen(choice) => write!(
                 f,
@@ -50,8 +50,8 @@ impl fmt::Display for Told<'_, '_> {
             Reply::Ruled(true) => write!(f, "ok yes"),
             Reply::Ruled(false) => write!(f, "ok no"),
             Reply::State => match desk {
-                Desk::Bare(_) => write!(f, "{}", Refusal::NoRegister),
-                Desk::Made(register, _) => write!(f, "{}", StateLines(register)),
+                Some(Desk::Made(register, _)) => write!(f, "{}", StateLines(register)),
+                _ => write!(f, "{}", Refusal::NoRegister),
             },
             Reply::Checked => write!(
                 f,

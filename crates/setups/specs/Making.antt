@@ -1,5 +1,5 @@
 -- The register that a setup and an accepted scheme make, for the kiosk's scales.
-use Rattle.std.specs.Prelude.{◌≡◌, ℕ, List, ⊤}
+use Rattle.std.specs.Prelude.{◌≡◌, ℕ, List, Some, None, Option, ⊤}
 use Rattle.model.specs.Kiosk.{kiosk_counts, kiosk_covers}
 use Rattle.register.specs.States.{Kept}
 use Rattle.rulings.specs.Piles.{pile_says}
@@ -23,6 +23,11 @@ limit_in (Records n) = n
 abbrev pub MadeStore : StoreChoice → (board : List ℕ) → KioskStore → Type 0
 MadeStore Board board s = s ≡ OnBoard board
 MadeStore (Records n) board s = (shown s ≡ blank) × (limit_of s ≡ n) × (board_of s ≡ board)
+
+-- how many records a choice takes beside the board, if it takes any
+abbrev pub records_in : StoreChoice → Option ℕ
+records_in Board = None
+records_in (Records n) = Some n
 
 -- Records are wanted for a list.
 abbrev pub WantsRecords : StoreChoice → Type 0

@@ -1,38 +1,35 @@
 // The register of the kiosk.
-ghost use Rattle.std.specs.Prelude.{◌≡◌, [], ⊤, MatchResult};
+ghost use Rattle.std.specs.Prelude.{◌≡◌, []};
 ghost use Rattle.register.specs.States.{empty_state};
 ghost use Rattle.register.specs.Views.{kept_by, state_of};
 ghost use Rattle.scheme.specs.Views.{commands_of};
 ghost use Rattle.promise.specs.Lives.{Life};
-ghost use Rattle.setups.specs.Making.{kiosk_kept, WantsRecords};
+ghost use Rattle.setups.specs.Making.{kiosk_kept};
 
-use crate::setup::Setup;
-use crate::store::KioskStore;
+use crate::store::{KioskStore, StoreRoom};
 use model::labels::Labels;
 use model::ladder::Ladder;
 use model::scales::KioskScales;
 use promise::calls::begin;
 use register::register::Register;
-use rulings::pile::{FourFilters, four_filters};
+use rulings::pile::{FilterMasks, FourFilters, four_filters};
 use scheme_tape::lawful::LawfulScheme;
-use std::alloc::{AllocError, Global};
 use stores::board::Board;
 
 pub type KioskPile = FourFilters<Ladder, Labels, Labels, Ladder>;
 
 pub type KioskRegister<'a> = Register<KioskScales, KioskStore<'a>, KioskPile>;
 
-// The register that is chosen, for an accepted scheme and with this board, at the beginning of its life. Memory can be wanting
-// only for a list's records.
+// The register for an accepted scheme, with this room, these filters and this board, at the beginning of its life.
 pub fn make_register<'a>(
-    heap: Global,
     scheme: LawfulScheme<KioskScales>,
-    setup: &Setup,
+    room: StoreRoom,
+    filters: FilterMasks,
     board: Board<'a>,
-) -> Result<KioskRegister<'a>, AllocError>
-    ensures made { MatchResult result (λ r. (kept_by r ≡ kiosk_kept (commands_of scheme.scheme) setup.now) × (state_of r ≡ empty_state)) (λ _. WantsRecords setup.now.store) }
-    ensures begun { MatchResult result (λ r. Life (kept_by r) [] (state_of r)) (λ _. ⊤) }
+) -> KioskRegister<'a>
+    ensures kept { kept_by result ≡ kiosk_kept (commands_of scheme.scheme) (record { store = room.choice; filters = filters }) }
+    ensures state { state_of result ≡ empty_state }
+    ensures begun { Life (kept_by result) [] (state_of result) }
 {
-    let store = KioskStore::new(heap, &setup.store, board)?;
-    Ok(begin(scheme, store, four_filters(setup.filters)))
+    begin(scheme, KioskStore::new(room, board), four_filters(filters))
 }

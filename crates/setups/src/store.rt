@@ -1,8 +1,9 @@
 // Where the cells of the kiosk's register lie: on its board, or in a list.
 ghost use Rattle.std.specs.Prelude.{◌≡◌, IfOk, MatchResult};
+ghost use Rattle.std.specs.Option.{ForSome, option_map};
 ghost use Rattle.stores.specs.Matrices.{blank};
 ghost use Rattle.stores.specs.RecordLists.{shown as shown_list, list_limit};
-ghost use Rattle.setups.specs.Making.{MadeStore, WantsRecords};
+ghost use Rattle.setups.specs.Making.{MadeStore, WantsRecords, records_in};
 ghost use Rattle.setups.specs.Stores.{shown, limit_of, board_of};
 ghost use Rattle.std.proofs.Common.{rules};
 
@@ -84,21 +85,42 @@ fn empty_list(heap: Global, size: &ListSize) -> Result<RecordList, AllocError>
     }
 }
 
-impl<'a> KioskStore<'a> {
-    // The store that is chosen, with this board. Memory can be wanting only for a list's records.
-    pub fn new(
-        heap: Global,
-        choice: &StoreChoice,
-        board: Board<'a>,
-    ) -> Result<KioskStore<'a>, AllocError>
-        ensures { MatchResult result (MadeStore choice.now board.entry) (λ _. WantsRecords choice.now) }
+// What the store that is chosen takes beside the board: an empty list, or nothing. It is had before a board is given up for it,
+// so that nothing is lost where memory is wanting.
+#[derive(Drop)]
+pub struct StoreRoom {
+    choice: StoreChoice,
+    list: Option<RecordList>,
+    ghost size: { option_map list_limit list ≡ records_in choice },
+    ghost empty: { ForSome list (λ l. shown_list l ≡ blank) },
+}
+
+impl StoreRoom {
+    // Memory can be wanting only for a list's records.
+    pub fn new(heap: Global, choice: &StoreChoice) -> Result<StoreRoom, AllocError>
+        ensures { MatchResult result (λ room. room.choice ≡ choice.now) (λ _. WantsRecords choice.now) }
     {
-        match choice {
-            StoreChoice::Board => Ok(KioskStore::OnBoard(board)),
-            StoreChoice::List(size) => {
-                let list = empty_list(heap, size)?;
-                Ok(KioskStore::InList { list, board })
-            }
+        let list = match choice {
+            StoreChoice::Board => None,
+            StoreChoice::List(size) => Some(empty_list(heap, size)?),
+        };
+        Ok(StoreRoom {
+            choice: *choice,
+            list,
+        })
+    }
+}
+
+impl<'a> KioskStore<'a> {
+    // The store that is chosen, with this board.
+    #[tactic(auto, using(crate::proofs::Made::board_made, crate::proofs::Made::list_made))]
+    pub fn new(room: StoreRoom, board: Board<'a>) -> KioskStore<'a>
+        ensures { MadeStore room.choice board.entry result }
+    {
+        let StoreRoom { choice: _, list } = room;
+        match list {
+            None => KioskStore::OnBoard(board),
+            Some(list) => KioskStore::InList { list, board },
         }
     }
 
