@@ -19,6 +19,11 @@ same_value None (Some b) = false
 same_value (Some a) None = false
 same_value (Some a) (Some b) = a == b
 
+-- a value as a number, and null as one that is no value
+abbrev pub value_number : Option ℕ → ℕ
+value_number None = 256
+value_number (Some v) = v
+
 -- as many, and the same one by one
 abbrev pub same_values : List (Option ℕ) → List (Option ℕ) → Bool
 same_values [] [] = true
